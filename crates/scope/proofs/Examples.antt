@@ -1,0 +1,132 @@
+-- What the definitions give on catalogue A with query 3, and for each shape: all by computing. (P1 to P10 as one list: crate `examples`.)
+use mathlib.Core.Path.{_≡_, refl}
+use mathlib.Core.Bool.{Bool, true, false}
+use mathlib.Core.List.{List, [], _∷_, map}
+use Prim.Native.Nat.{ℕ, _-_, _^_}
+use lib.Count.{ones}
+use lib.Ieee.{Float, nan, inf, binary64, ofInt, round, mul, lt, le}
+use Rattle.theory.specs.Lists.{cat, sum, any, same, firstFrom}
+use Rattle.scope.specs.declared.Shape.{Shape}
+use Rattle.scope.specs.declared.Unit.the-variants.{Degrees, Radians}
+use Rattle.scope.specs.Codes.{bit, distance, substring, codeOf}
+use Rattle.scope.specs.Shape.{q, listed, m, firstBit, len, size, startsBefore}
+use Rattle.scope.specs.Tables.{Index, substringOf, builtStarts, builtIds, sound, start, idAt, bucket, badId, bad}
+use Rattle.theory.specs.Binomials.{binomial}
+use Rattle.scope.specs.Walk.{openAfter, distanceOf, opens, opened, tested, near}
+use Rattle.scope.specs.Search.{ranked, nearestSteps, nearest, withinSteps, within}
+use Rattle.scope.specs.Sky.{angleOf, given, finite, perRadian, degrees, edge, inField, column, angleAt, cellAt, codeFrom}
+use Rattle.scope.specs.Refusals.{refusal, above, unless, lent, ofBlackboard, ofSky}
+use Rattle.scope.specs.Calls.{Asked, report, nearestAnswer, nearestEnd, withinAnswer, withinEnd, searchEnd, blackboardAnswer, skyAnswer}
+use Rattle.scope.proofs.CatalogueA.{a, spoiled, ask, asked, End, shown}
+
+abbrev shape : ℕ → ℕ → Shape
+shape w s = record { w = w; s = s }
+
+-- ---- shapes: q, m, the first bit of the last substring, the buckets of a table, and all starts
+
+abbrev values : Shape → List ℕ
+values sh = q sh ∷ m sh ∷ firstBit sh (m sh - 1) ∷ size sh 0 ∷ startsBefore sh (m sh) ∷ []
+
+shapes :
+    map values (shape 1 4 ∷ shape 1 8 ∷ shape 1 16 ∷ shape 2 4 ∷ shape 2 8 ∷ shape 2 16 ∷ shape 4 4 ∷ shape 4 8 ∷ shape 4 16 ∷ [])
+    ≡ (64 ∷ 16 ∷ 60 ∷ 16 ∷ 272 ∷ []) ∷ (64 ∷ 8 ∷ 56 ∷ 256 ∷ 2056 ∷ []) ∷ (64 ∷ 4 ∷ 48 ∷ 65536 ∷ 262148 ∷ [])
+    ∷ (128 ∷ 32 ∷ 124 ∷ 16 ∷ 544 ∷ []) ∷ (128 ∷ 16 ∷ 120 ∷ 256 ∷ 4112 ∷ []) ∷ (128 ∷ 8 ∷ 112 ∷ 65536 ∷ 524296 ∷ [])
+    ∷ (256 ∷ 64 ∷ 252 ∷ 16 ∷ 1088 ∷ []) ∷ (256 ∷ 32 ∷ 248 ∷ 256 ∷ 8224 ∷ []) ∷ (256 ∷ 16 ∷ 240 ∷ 65536 ∷ 1048592 ∷ []) ∷ []
+unfolding m firstBit len startsBefore
+shapes = refl
+
+listed-shapes : map listed (shape 1 4 ∷ shape 4 16 ∷ shape 3 8 ∷ shape 1 5 ∷ shape 0 8 ∷ shape 1 0 ∷ []) ≡ true ∷ true ∷ false ∷ false ∷ false ∷ false ∷ []
+unfolding listed
+listed-shapes = refl
+
+-- ---- codes and tables
+
+distances : map (distanceOf (ask a)) (0 ∷ 1 ∷ 2 ∷ 3 ∷ 4 ∷ []) ≡ 2 ∷ 1 ∷ 6 ∷ 62 ∷ 8 ∷ []
+unfolding distance sum bit codeOf
+distances = refl
+
+-- a substring of two words: bits 60 to 67
+crossing : substring 60 8 (0xa000_0000_0000_0000 ∷ 0x5 ∷ []) ≡ 0x5a
+unfolding substring sum bit
+crossing = refl
+
+-- A's tables are what the builder writes; a table whose bucket lists an entry twice is not
+tables : (sound a ≡ true) × (sound spoiled ≡ false)
+unfolding sound builtStarts builtIds same cat m firstBit len substringOf substring sum bit codeOf
+tables = (refl, refl)
+
+buckets : bucket a 0 1 ∷ bucket a 0 2 ∷ bucket a 1 0 ∷ bucket a 7 255 ∷ [] ≡ (1 ∷ 4 ∷ []) ∷ [] ∷ (0 ∷ 1 ∷ 2 ∷ []) ∷ (3 ∷ []) ∷ []
+unfolding start idAt startsBefore cat
+buckets = refl
+
+-- ---- the walk: what a step opens, what P2's two steps open, and the blackboard
+
+masks : opens (ask a) 8 ≡ (0, 2) ∷ (0, 1) ∷ (0, 7) ∷ (0, 11) ∷ (0, 19) ∷ (0, 35) ∷ (0, 67) ∷ (0, 131) ∷ []
+unfolding opens cat m firstBit len substring sum bit ones
+masks = refl
+
+p2-opened : opened (ask a) 2 ≡ (0, 3) ∷ (1, 0) ∷ []
+unfolding opened opens cat m firstBit len substring sum bit ones
+p2-opened = refl
+
+board :
+    map (openAfter (shape 1 8)) (0 ∷ 1 ∷ 2 ∷ 8 ∷ 62 ∷ 64 ∷ []) ≡ 1 ∷ 2 ∷ 3 ∷ 16 ∷ 2032 ∷ 2041 ∷ []
+unfolding openAfter m sum binomial
+board = refl
+
+board-refused : map (λ R. ofBlackboard (blackboardAnswer (shape 1 8) R)) (64 ∷ 65 ∷ []) ≡ (0, 2041 ∷ []) ∷ (4, []) ∷ []
+unfolding blackboardAnswer unless listed any openAfter m sum binomial
+board-refused = refl
+
+-- ---- the searches: number and values, then the lists at the end
+
+-- P1 to P4: four answer places at least, and one more that stays
+nearests :
+    shown (nearestEnd (asked a 1 1) 0) ∷ shown (nearestEnd (asked a 2 3) 1) ∷ shown (nearestEnd (asked a 3 3) 2) ∷ shown (nearestEnd (asked a 5 5) 4) ∷ []
+    ≡ (0, 0 ∷ 0 ∷ 0 ∷ [], 0 ∷ 7 ∷ [], 9 ∷ [], 9 ∷ [])
+    ∷ (0, 1 ∷ 2 ∷ 3 ∷ [], 0 ∷ 7 ∷ [], 1 ∷ 9 ∷ [], 1 ∷ 9 ∷ 9 ∷ [])
+    ∷ (0, 2 ∷ 3 ∷ 3 ∷ [], 0 ∷ 7 ∷ [], 1 ∷ 0 ∷ 9 ∷ [], 1 ∷ 2 ∷ 9 ∷ [])
+    ∷ (0, 4 ∷ 16 ∷ 4 ∷ [], 0 ∷ 7 ∷ [], 1 ∷ 0 ∷ 2 ∷ 4 ∷ 9 ∷ [], 1 ∷ 2 ∷ 6 ∷ 8 ∷ 9 ∷ []) ∷ []
+unfolding nearestEnd withinEnd searchEnd lent nearestAnswer withinAnswer report unless nearestSteps nearest withinSteps within ranked firstFrom near tested opened opens bad badId start idAt substringOf listed startsBefore m firstBit len substring distance codeOf bit sum cat any ones
+nearests = refl
+
+-- P6 and P7; r = 65 refused 4; within 1 with room 0 refused 6 with T = 1; within 2 with one place: the first answer
+withins :
+    shown (withinEnd (asked a 6 6) 0) ∷ shown (withinEnd (asked a 6 6) 1) ∷ shown (withinEnd (asked a 1 1) 65)
+    ∷ shown (withinEnd (asked a 0 1) 1) ∷ shown (withinEnd (asked a 1 2) 2) ∷ []
+    ≡ (0, 0 ∷ 1 ∷ 0 ∷ [], 0 ∷ 7 ∷ [], 0 ∷ 0 ∷ 0 ∷ 0 ∷ 0 ∷ 9 ∷ [], 0 ∷ 0 ∷ 0 ∷ 0 ∷ 0 ∷ 9 ∷ [])
+    ∷ (0, 1 ∷ 2 ∷ 3 ∷ [], 0 ∷ 7 ∷ [], 1 ∷ 0 ∷ 0 ∷ 0 ∷ 0 ∷ 9 ∷ [], 1 ∷ 0 ∷ 0 ∷ 0 ∷ 0 ∷ 9 ∷ [])
+    ∷ (4, [], 7 ∷ 7 ∷ [], 9 ∷ [], 9 ∷ [])
+    ∷ (6, 1 ∷ [], 0 ∷ 7 ∷ [], [], 9 ∷ [])
+    ∷ (6, 2 ∷ [], 0 ∷ 7 ∷ [], 1 ∷ [], 1 ∷ 9 ∷ []) ∷ []
+unfolding nearestEnd withinEnd searchEnd lent nearestAnswer withinAnswer report unless nearestSteps nearest withinSteps within ranked firstFrom near tested opened opens bad badId start idAt substringOf listed startsBefore m firstBit len substring distance codeOf bit sum cat any ones
+withins = refl
+
+-- 7 names table 1, bucket 0, and leaves zeros; where the walk does not meet it, it does not matter; 5 comes before it
+bads :
+    shown (nearestEnd (asked spoiled 3 3) 2) ∷ shown (withinEnd (asked spoiled 2 2) 0) ∷ shown (nearestEnd (asked spoiled 1 3) 2) ∷ []
+    ≡ (7, 1 ∷ 0 ∷ [], 0 ∷ 7 ∷ [], 0 ∷ 0 ∷ 9 ∷ [], 0 ∷ 0 ∷ 9 ∷ [])
+    ∷ (0, 0 ∷ 1 ∷ 0 ∷ [], 0 ∷ 7 ∷ [], 0 ∷ 0 ∷ [], 0 ∷ 0 ∷ [])
+    ∷ (5, [], 7 ∷ 7 ∷ [], 9 ∷ [], 9 ∷ 9 ∷ 9 ∷ []) ∷ []
+unfolding nearestEnd withinEnd searchEnd lent nearestAnswer withinAnswer report unless nearestSteps nearest withinSteps within ranked firstFrom near tested opened opens bad badId start idAt substringOf listed startsBefore m firstBit len substring distance codeOf bit sum cat any ones
+bads = refl
+
+-- r = 64 allowed, r = 65 refused 4
+radii : map (λ r. unless (above (shape 1 8) (r ∷ [])) refusal (0, [])) (64 ∷ 65 ∷ []) ≡ (0, []) ∷ (4, []) ∷ []
+unfolding unless any
+radii = refl
+
+-- ---- the sky: 8; 9 with its place; across before up, so 10 before the 9 of up; 9 before 10 of one angle; an overflow is 10; cells; no stars
+
+abbrev deg : Bool → ℕ → Float
+deg sign k = round binary64 sign k 1
+
+skies :
+    map ofSky
+    (skyAnswer Degrees (deg false 0 ∷ []) [] ∷ skyAnswer Degrees (deg false 0 ∷ deg false 1 ∷ []) (deg false 0 ∷ nan ∷ [])
+    ∷ skyAnswer Degrees (deg false 9 ∷ []) (nan ∷ []) ∷ skyAnswer Radians (inf true ∷ []) (deg false 0 ∷ [])
+    ∷ skyAnswer Radians (deg false (10 ^ 308) ∷ []) (deg false 0 ∷ [])
+    ∷ skyAnswer Degrees (deg true 4 ∷ deg false 3 ∷ deg false 3 ∷ []) (deg true 4 ∷ deg true 3 ∷ deg true 3 ∷ []) ∷ skyAnswer Radians [] [] ∷ [])
+    ≡ (8, []) ∷ (9, 1 ∷ []) ∷ (10, 0 ∷ []) ∷ (9, 0 ∷ []) ∷ (10, 0 ∷ []) ∷ (0, 32769 ∷ []) ∷ (0, 0 ∷ []) ∷ []
+unfolding skyAnswer unless cat angleOf given finite perRadian degrees edge inField column angleAt cellAt codeFrom firstFrom ofInt round mul lt le
+skies = refl

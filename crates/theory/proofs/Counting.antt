@@ -1,0 +1,136 @@
+-- Laws of `upto` and `count`: the numbers below n that pass a test. Assumes nothing.
+use mathlib.Core.Path.{_≡_, refl, sym, ap, ap₂, _∙_, subst}
+use mathlib.Core.Logic.{_⊎_, inl, inr, ⊎-elim}
+use mathlib.Core.Bool.{Bool, true, false, _&&_, _||_, cond, and-true, and-false, or-false}
+use mathlib.Core.List.{List, [], _∷_, _++_, map, append-nil}
+use Prim.Native.Nat.{ℕ, zero, suc, _+_, _-_, _*_, _≤_, _<_}
+use native.Mathlib.Nat.{add-zero, le-refl, not-suc-le-zero}
+use native.Mathlib.Decide.{le-ind}
+use native.Mathlib.Numerals.{add-one}
+use native.Mathlib.Omega.{arith}
+use lib.Dec.{eqb, ltb}
+use lib.ListN.{length, getD, length-append, List·getD-append}
+use lib.Seq.{getD-at}
+use borrow.Author.Tests.{eq-eqb, ne-eqb, lt-ltb, le-ltb, eqb-true}
+use Rattle.theory.specs.Lists.{sum, cat, upto, count, any, has}
+use Rattle.theory.proofs.Tests.{either, lt-or-le, eq-or-ne, or-left, and-left, and-right, same-test, oneIf, oneIf-le}
+use Rattle.theory.proofs.Sums.{sum-suc, sum-cong, sum-zero, sum-at}
+use Rattle.theory.proofs.Lists.{cat-suc, length-cat, cat-cong, has-append, has-one, has-none}
+
+module _ {A : Type 0} where
+  -- x where the test holds, or nothing
+  abbrev pub only : Bool → A → List A
+  only b x = cond b (x ∷ []) []
+
+  pub length-only : (b : Bool) (x : A) → length (only b x) ≡ oneIf b
+  length-only true x = refl
+  length-only false x = refl
+
+module _ (p : ℕ → Bool) where
+  pub upto-suc : (n : ℕ) → upto p (suc n) ≡ upto p n ++ only (p n) n
+  upto-suc n = cat-suc (λ i. only (p i) i) n
+
+  pub count-sum : (n : ℕ) → count p n ≡ sum (λ i. oneIf (p i)) n
+  count-sum n = length-cat (λ i. only (p i) i) n ∙ sum-cong _ _ n (λ i _. length-only (p i) i)
+
+  pub count-zero : count p 0 ≡ 0
+  unfolding cat
+  count-zero = refl
+
+  pub count-suc : (n : ℕ) → count p (suc n) ≡ count p n + oneIf (p n)
+  count-suc n = ap length (upto-suc n) ∙ length-append (upto p n) (only (p n) n) ∙ ap (λ (k : ℕ). count p n + k) (length-only (p n) n)
+
+  pub count-yes : (n : ℕ) → p n ≡ true → count p (suc n) ≡ count p n + 1
+  count-yes n e = count-suc n ∙ ap (λ (b : Bool). count p n + oneIf b) e
+
+  pub count-no : (n : ℕ) → p n ≡ false → count p (suc n) ≡ count p n
+  count-no n e = let h : count p (suc n) ≡ count p n + 0 = count-suc n ∙ ap (λ (b : Bool). count p n + oneIf b) e in omega arith
+
+  pub count-mono : (i n : ℕ) → i ≤ n → count p i ≤ count p n
+  count-mono i n h = le-ind (λ (m : ℕ). count p i ≤ count p m) (le-refl (count p i)) (λ m k e. omega (arith, count-suc m)) n h
+
+  pub count-less : (i n : ℕ) → i < n → p i ≡ true → count p i < count p n
+  count-less i n h e = omega (arith, count-yes i e, count-mono (suc i) n h)
+
+pub count-le : (p : ℕ → Bool) (n : ℕ) → count p n ≤ n
+unfolding cat
+count-le p zero = le-refl 0
+count-le p (suc n) = omega (arith, count-le p n, count-suc p n, oneIf-le (p n))
+
+pub count-all : (p : ℕ → Bool) (n : ℕ) → ((i : ℕ) → i < n → p i ≡ true) → count p n ≡ n
+unfolding cat
+count-all p zero h = refl
+count-all p (suc n) h = omega (arith, count-all p n (λ i l. h i (omega arith)), count-yes p n (h n (omega arith)))
+
+pub upto-cong : (p q : ℕ → Bool) (n : ℕ) → ((i : ℕ) → i < n → p i ≡ q i) → upto p n ≡ upto q n
+upto-cong p q n h = cat-cong _ _ n (λ i l. ap (λ (b : Bool). only b i) (h i l))
+
+pub count-cong : (p q : ℕ → Bool) (n : ℕ) → ((i : ℕ) → i < n → p i ≡ q i) → count p n ≡ count q n
+count-cong p q n h = ap length (upto-cong p q n h)
+
+-- two tests that differ at most at k, where the first fails
+pub count-new : (t u : ℕ → Bool) (k n : ℕ) → k < n → t k ≡ false → ((i : ℕ) → (i ≡ k → ⊥) → u i ≡ t i) → count u n ≡ count t n + oneIf (u k)
+count-new t u k n h out same = le-ind (λ (m : ℕ). count u m ≡ count t m + oneIf (u k)) base more n h
+  where
+    base : count u (suc k) ≡ count t (suc k) + oneIf (u k)
+    base = count-suc u k ∙ rw (count-no t k out) (ap (λ (x : ℕ). x + oneIf (u k)) (count-cong u t k (λ i l. same i (omega arith))))
+
+    more : (m : ℕ) → suc k ≤ m → count u m ≡ count t m + oneIf (u k) → count u (suc m) ≡ count t (suc m) + oneIf (u k)
+    more m l ih = count-suc u m ∙ rw (same m (omega arith)) (omega (arith, count-suc t m))
+
+-- a stretch where nothing passes adds nothing
+pub upto-gap : (p : ℕ → Bool) (a b : ℕ) → a ≤ b → ((i : ℕ) → a ≤ i → i < b → p i ≡ false) → upto p b ≡ upto p a
+upto-gap p a zero h f = let e : zero ≡ a = omega arith in ap (upto p) e
+upto-gap p a (suc b) h f =
+    ⊎-elim (λ (l : a < suc b). upto-suc p b ∙ rw (f b (omega arith) (omega arith), append-nil) (upto-gap p a b (omega arith) (λ i x y. f i x (omega arith))))
+    (λ (g : suc b ≤ a). let e : suc b ≡ a = omega arith in ap (upto p) e) (lt-or-le a (suc b))
+
+-- ---- which number stands at a place
+
+-- number j passes the test p, is below n, and o smaller numbers pass it
+pub record Nth (p : ℕ → Bool) (n o j : ℕ) : Type 0 where
+  pub below : j < n
+  pub passes : p j ≡ true
+  pub before : count p j ≡ o
+
+nth-step : (p : ℕ → Bool) (n o : ℕ) → (o < count p n → Nth p n o (getD (upto p n) o 0)) → o < count p (suc n)
+    → Nth p (suc n) o (getD (upto p n ++ only (p n) n) o 0)
+nth-step p n o ih h = go (p n) refl (lt-or-le o (count p n))
+  where
+    wider : (j : ℕ) → Nth p n o j → Nth p (suc n) o j
+    wider j r = record { below = omega arith; passes = r .passes; before = r .before }
+
+    go : (b : Bool) → p n ≡ b → (o < count p n) ⊎ (count p n ≤ o) → Nth p (suc n) o (getD (upto p n ++ only (p n) n) o 0)
+    go b e (inl l) = rw (List·getD-append (upto p n) (only (p n) n) 0 o l) (wider _ (ih l))
+    go true e (inr l) =
+        let q : count p n ≡ o = omega (arith, count-yes p n e) in
+        rw (e, getD-at (upto p n) n [] 0 o q) (record { below = le-refl (suc n); passes = e; before = q })
+    go false e (inr l) = absurd (omega (arith, count-no p n e))
+
+pub upto-at : (p : ℕ → Bool) (n o : ℕ) → o < count p n → Nth p n o (getD (upto p n) o 0)
+unfolding cat
+upto-at p zero o h = absurd (not-suc-le-zero h)
+upto-at p (suc n) o h = nth-step p n o (upto-at p n o) h
+
+-- ---- membership
+
+pub has-upto : (p : ℕ → Bool) (x n : ℕ) → has x (upto p n) ≡ (ltb x n && p x)
+unfolding cat any
+has-upto p x zero = sym (rw (le-ltb x 0 (omega arith)))
+has-upto p x (suc n) =
+    has-append x (upto p n) (only (p n) n) ∙ rw (has-upto p x n)
+    (⊎-elim
+    (λ (e : x ≡ n). rw (e, le-ltb n n (omega arith), lt-ltb n (suc n) (omega arith)) (here (p n) n))
+    (λ (ne : x ≡ n → ⊥). ap (λ (b : Bool). (ltb x n && p x) || b) (other (p n) ne) ∙ rw or-false (ap (λ (b : Bool). b && p x) (bound ne)))
+    (eq-or-ne x n))
+  where
+    here : (b : Bool) (n : ℕ) → has n (only b n) ≡ b
+    here true n = has-one n n ∙ eq-eqb n n refl
+    here false n = has-none n
+
+    other : (b : Bool) → (x ≡ n → ⊥) → has x (only b n) ≡ false
+    other true ne = has-one x n ∙ ne-eqb x n ne
+    other false ne = has-none x
+
+    bound : (x ≡ n → ⊥) → ltb x n ≡ ltb x (suc n)
+    bound ne = ⊎-elim (λ (l : x < n). lt-ltb x n l ∙ sym (lt-ltb x (suc n) (omega arith))) (λ (g : n ≤ x). le-ltb x n g ∙ sym (le-ltb x (suc n) (omega arith))) (lt-or-le x n)

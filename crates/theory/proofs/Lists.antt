@@ -1,0 +1,218 @@
+-- Laws of the list tools. Assumes nothing.
+use mathlib.Core.Path.{_≡_, refl, sym, ap, ap₂, _∙_, subst}
+use mathlib.Core.Logic.{_⊎_, inl, inr, ⊎-elim}
+use mathlib.Core.Bool.{Bool, true, false, _&&_, _||_, cond, or-false, or-assoc}
+use mathlib.Core.List.{List, [], _∷_, _++_, map, append-assoc, append-nil}
+use Prim.Native.Nat.{ℕ, zero, suc, _+_, _-_, _*_, _≤_, _<_}
+use native.Mathlib.Nat.{add-zero, add-suc, zero-add, eq-or-lt-of-le, not-suc-le-zero, le-refl, zero-mul, suc-mul}
+use native.Mathlib.Decide.{le-ind}
+use native.Mathlib.Numerals.{add-one}
+use native.Mathlib.Omega.{arith}
+use lib.Dec.{eqb}
+use lib.ListN.{length, getD, take, drop, set, replicate, length-append, length-drop, length-set, take-append-drop, length-replicate, getD-replicate, List·getD-append}
+use lib.Seq.{ext-getD, getD-at, take-at, drop-at, getD-set-same, getD-set-other}
+use borrow.Author.Tests.{eqb-true, eq-eqb, ne-eqb}
+use Rattle.theory.specs.Lists.{sum, firstFrom, first, cat, tab, any, over, between, has, same, padded}
+use Rattle.theory.proofs.Tests.{both-ways, either, lt-or-le, eq-or-ne, or-true, or-left, or-right, and-left, and-right, same-test, oneIf}
+use Rattle.theory.proofs.Sums.{sum-cong}
+
+-- ---- first
+
+-- no number passes: all are passed over
+pub first-none : (p : ℕ → Bool) (n i : ℕ) → ((j : ℕ) → i ≤ j → j < i + n → p j ≡ false) → firstFrom p i n ≡ i + n
+unfolding firstFrom
+first-none p zero i h = omega arith
+first-none p (suc n) i h =
+    let e = h i (omega arith) (omega arith) in
+    let ih = first-none p n (suc i) (λ j a b. h j (omega arith) (omega arith)) in
+    rw e (ih ∙ omega arith)
+
+-- R passes and none before it: it is the first
+pub first-is : (p : ℕ → Bool) (n i R : ℕ) → i ≤ R → R < i + n → ((j : ℕ) → i ≤ j → j < R → p j ≡ false) → p R ≡ true → firstFrom p i n ≡ R
+unfolding firstFrom
+first-is p zero i R a b h t = let z : ⊥ = omega arith in elim z [ ]
+first-is p (suc n) i R a b h t =
+    ⊎-elim
+    (λ (e : i ≡ R). let u : p i ≡ true = subst (λ (x : ℕ). p x ≡ true) (sym e) t in rw u e)
+    (λ (l : i < R).
+    let u = h i (omega arith) l in
+    rw u (first-is p n (suc i) R l (omega arith) (λ j c d. h j (omega arith) d) t))
+    (eq-or-lt-of-le a)
+
+-- ---- cat
+
+module _ {A : Type 0} where
+  pub cat-suc : (f : ℕ → List A) (n : ℕ) → cat f (suc n) ≡ cat f n ++ f n
+  unfolding cat
+  cat-suc f n = refl
+
+  pub length-cat : (f : ℕ → List A) (n : ℕ) → length (cat f n) ≡ sum (λ i. length (f i)) n
+  unfolding cat sum
+  length-cat f zero = refl
+  length-cat f (suc n) = rw length-append (omega (arith, length-cat f n))
+
+  pub cat-cong : (f g : ℕ → List A) (n : ℕ) → ((i : ℕ) → i < n → f i ≡ g i) → cat f n ≡ cat g n
+  unfolding cat
+  cat-cong f g zero h = refl
+  cat-cong f g (suc n) h = ap₂ (λ (x y : List A). x ++ y) (cat-cong f g n (λ i l. h i (omega arith))) (h n (omega arith))
+
+  pub cat-split : (f : ℕ → List A) (a b : ℕ) → cat f (a + b) ≡ cat f a ++ cat (λ i. f (a + i)) b
+  unfolding cat
+  cat-split f a zero = rw add-zero (sym (append-nil (cat f a)))
+  cat-split f a (suc b) = rw (add-suc, cat-split f a b, append-assoc)
+
+  -- the first parts of a longer row of parts
+  pub cat-front : (f : ℕ → List A) (z m : ℕ) → z ≤ m → (t : List A) × (cat f m ≡ cat f z ++ t)
+  cat-front f z m h =
+      let e : m ≡ z + (m - z) = omega arith in
+      (cat (λ i. f (z + i)) (m - z), ap (cat f) e ∙ cat-split f z (m - z))
+
+  -- ---- tab
+
+  pub tab-suc : (f : ℕ → A) (n : ℕ) → tab f (suc n) ≡ tab f n ++ f n ∷ []
+  unfolding cat
+  tab-suc f n = refl
+
+  pub length-tab : (f : ℕ → A) (n : ℕ) → length (tab f n) ≡ n
+  unfolding cat
+  length-tab f zero = refl
+  length-tab f (suc n) = length-append (tab f n) (f n ∷ []) ∙ (let h = length-tab f n in omega arith)
+
+  pub getD-tab : (f : ℕ → A) (d : A) (n i : ℕ) → i < n → getD (tab f n) i d ≡ f i
+  unfolding cat
+  getD-tab f d zero i h = let z : ⊥ = omega arith in elim z [ ]
+  getD-tab f d (suc n) i h =
+      ⊎-elim
+      (λ (e : i ≡ n). getD-at (tab f n) (f n) [] d i (length-tab f n ∙ sym e) ∙ ap f (sym e))
+      (λ (l : i < n). List·getD-append (tab f n) (f n ∷ []) d i (let k = length-tab f n in omega arith) ∙ getD-tab f d n i l)
+      (eq-or-lt-of-le (let g : i ≤ n = omega arith in g))
+
+  -- a list of n elements that are those of f is f's table
+  pub is-tab : (f : ℕ → A) (d : A) (n : ℕ) (l : List A) → length l ≡ n → ((i : ℕ) → i < n → getD l i d ≡ f i) → l ≡ tab f n
+  is-tab f d n l e h =
+      ext-getD d l (tab f n) (e ∙ sym (length-tab f n)) (λ i k. let k′ : i < n = rw e at k in h i k′ ∙ sym (getD-tab f d n i k′))
+
+  pub tab-cong : (f g : ℕ → A) (n : ℕ) → ((i : ℕ) → i < n → f i ≡ g i) → tab f n ≡ tab g n
+  tab-cong f g n h = cat-cong (λ i. f i ∷ []) (λ i. g i ∷ []) n (λ i l. ap (λ (x : A). x ∷ []) (h i l))
+
+  -- a store at k makes the table of f that of g, where g is a at k and f elsewhere
+  pub set-tab : (f g : ℕ → A) (n k : ℕ) (a : A) → k < n → g k ≡ a → ((i : ℕ) → i < n → (i ≡ k → ⊥) → g i ≡ f i) → set (tab f n) k a ≡ tab g n
+  set-tab f g n k a h here there = is-tab g a n (set (tab f n) k a) (length-set (tab f n) k a ∙ length-tab f n) at
+    where
+      at : (i : ℕ) → i < n → getD (set (tab f n) k a) i a ≡ g i
+      at i l =
+          ⊎-elim (λ (q : i ≡ k). rw q (getD-set-same (tab f n) k a a (rw length-tab h) ∙ sym here))
+          (λ (q : i ≡ k → ⊥). getD-set-other (tab f n) k i a a q ∙ getD-tab f a n i l ∙ sym (there i l q)) (eq-or-ne i k)
+
+  -- ---- any
+
+  pub any-append : (t : A → Bool) (l k : List A) → any t (l ++ k) ≡ (any t l || any t k)
+  unfolding any
+  any-append t [] k = refl
+  any-append t (x ∷ l) k = rw (any-append t l k) (sym (or-assoc (t x) (any t l) (any t k)))
+
+  pub any-one : (t : A → Bool) (x : A) → any t (x ∷ []) ≡ t x
+  unfolding any
+  any-one t x = or-false (t x)
+
+  pub any-none : (t : A → Bool) → any t [] ≡ false
+  unfolding any
+  any-none t = refl
+
+  pub any-cong : (t u : A → Bool) (l : List A) → ((x : A) → t x ≡ u x) → any t l ≡ any u l
+  unfolding any
+  any-cong t u [] h = refl
+  any-cong t u (x ∷ l) h = ap₂ (λ (a b : Bool). a || b) (h x) (any-cong t u l h)
+
+  pub any-map : {B : Type 0} (t : A → Bool) (f : B → A) (l : List B) → any t (map f l) ≡ any (λ x. t (f x)) l
+  unfolding any
+  any-map t f [] = refl
+  any-map t f (x ∷ l) = ap (λ (b : Bool). t (f x) || b) (any-map t f l)
+
+  -- in a row of parts: some part has one that passes
+  pub any-cat-yes : (t : A → Bool) (f : ℕ → List A) (i n : ℕ) → i < n → any t (f i) ≡ true → any t (cat f n) ≡ true
+  any-cat-yes t f i n h e =
+      le-ind (λ (k : ℕ). any t (cat f k) ≡ true)
+      (ap (any t) (cat-suc f i) ∙ any-append t (cat f i) (f i) ∙ or-right (any t (cat f i)) (any t (f i)) e)
+      (λ k _ ih. ap (any t) (cat-suc f k) ∙ any-append t (cat f k) (f k) ∙ or-left (any t (cat f k)) (any t (f k)) ih) n h
+
+  pub any-cat-no : (t : A → Bool) (f : ℕ → List A) (n : ℕ) → ((i : ℕ) → i < n → any t (f i) ≡ false) → any t (cat f n) ≡ false
+  unfolding cat any
+  any-cat-no t f zero h = refl
+  any-cat-no t f (suc n) h = any-append t (cat f n) (f n) ∙ rw (any-cat-no t f n (λ i l. h i (omega arith)), h n (omega arith))
+
+  pub any-cat-at : (t : A → Bool) (f : ℕ → List A) (n : ℕ) → any t (cat f n) ≡ true → (i : ℕ) × (i < n) × (any t (f i) ≡ true)
+  unfolding cat any
+  any-cat-at t f zero h = both-ways (sym h)
+  any-cat-at t f (suc n) h = go (λ e. any-cat-at t f n e) (or-true (any t (cat f n)) (any t (f n)) (sym (any-append t (cat f n) (f n)) ∙ h))
+    where
+      go : (any t (cat f n) ≡ true → (i : ℕ) × (i < n) × (any t (f i) ≡ true)) → (any t (cat f n) ≡ true) ⊎ (any t (f n) ≡ true)
+          → (i : ℕ) × (i < suc n) × (any t (f i) ≡ true)
+      go ih (inl e) = let (i, l, a) = ih e in (i, omega arith, a)
+      go ih (inr e) = (n, omega arith, e)
+
+-- ---- has
+
+pub has-append : (i : ℕ) (l k : List ℕ) → has i (l ++ k) ≡ (has i l || has i k)
+has-append i l k = any-append (eqb i) l k
+
+pub has-one : (i x : ℕ) → has i (x ∷ []) ≡ eqb i x
+has-one i x = any-one (eqb i) x
+
+pub has-none : (i : ℕ) → has i [] ≡ false
+has-none i = any-none (eqb i)
+
+-- ---- same
+
+pub same-refl : (l : List ℕ) → same l l ≡ true
+unfolding same
+same-refl [] = refl
+same-refl (x ∷ l) = rw (eq-eqb x x refl, same-refl l)
+
+pub same-true : (k l : List ℕ) → same k l ≡ true → k ≡ l
+unfolding same
+same-true [] [] h = refl
+same-true [] (y ∷ l) h = both-ways (sym h)
+same-true (x ∷ k) [] h = both-ways (sym h)
+same-true (x ∷ k) (y ∷ l) h =
+    ap₂ (λ (a : ℕ) (r : List ℕ). a ∷ r) (eqb-true x y (and-left (eqb x y) (same k l) h)) (same-true k l (and-right (eqb x y) (same k l) h))
+
+-- ---- padded, over
+
+-- a list that fills its P places is written as it is; and how long what is written is
+pub padded-all : (l : List ℕ) → padded (length l) l ≡ l
+padded-all l = sym (is-tab (λ p. getD l p 0) 0 (length l) l refl (λ i h. refl))
+
+pub length-padded : (P : ℕ) (l : List ℕ) → length (padded P l) ≡ P
+length-padded P l = length-tab (λ p. getD l p 0) P
+
+-- no answers: zeros
+pub padded-none : (P : ℕ) → padded P [] ≡ replicate P 0
+padded-none P = sym (is-tab (λ p. getD [] p 0) 0 P (replicate P 0) (length-replicate P 0) (λ i h. getD-replicate P i 0 0 h))
+
+module _ {A : Type 0} where
+  -- nothing written, nothing changed; and the front of what is written, and its rest
+  pub over-none : (old : List A) → over [] old ≡ old
+  over-none old = refl
+
+  pub take-over : (l old : List A) (k : ℕ) → length l ≡ k → take k (over l old) ≡ l
+  take-over l old k e = take-at l (drop (length l) old) k e
+
+  pub drop-over : (l old : List A) (k : ℕ) → length l ≡ k → drop k (over l old) ≡ drop k old
+  drop-over l old k e = drop-at l (drop (length l) old) k e ∙ ap (λ (n : ℕ). drop n old) e
+
+  pub length-over : (l old : List A) → length l ≤ length old → length (over l old) ≡ length old
+  length-over l old h = length-append l (drop (length l) old) ∙ simp length-drop (omega arith)
+
+-- ---- between
+
+pub between-suc : (a p : ℕ) → a ≤ p → between a (suc p) ≡ between a p ++ p ∷ []
+between-suc a p h =
+    let e : suc p - a ≡ suc (p - a) = omega arith in
+    let f : ℕ → ℕ = λ k. a + k in
+    let at : a + (p - a) ≡ p = omega arith in
+    ap (tab f) e ∙ tab-suc f (p - a) ∙ ap (λ (x : ℕ). tab f (p - a) ++ x ∷ []) at
+
+pub between-none : (a p : ℕ) → p ≤ a → between a p ≡ []
+unfolding cat
+between-none a p h = let e : p - a ≡ 0 = omega arith in ap (tab (λ k. a + k)) e

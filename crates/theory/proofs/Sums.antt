@@ -1,0 +1,80 @@
+-- Laws of `sum`. Assumes nothing.
+use mathlib.Core.Path.{_≡_, refl, sym, ap, ap₂, _∙_}
+use mathlib.Core.Logic.{⊎-elim}
+use Prim.Native.Nat.{ℕ, zero, suc, _+_, _-_, _*_, _≤_, _<_}
+use native.Mathlib.Nat.{add-zero, add-suc, zero-mul, suc-mul, le-refl, eq-or-lt-of-le, le-of-suc-le-suc}
+use native.Mathlib.Decide.{le-ind, decLt}
+use native.Mathlib.Omega.{arith}
+use Rattle.theory.specs.Lists.{sum}
+
+pub sum-suc : (f : ℕ → ℕ) (n : ℕ) → sum f (suc n) ≡ sum f n + f n
+unfolding sum
+sum-suc f n = refl
+
+pub sum-cong : (f g : ℕ → ℕ) (n : ℕ) → ((i : ℕ) → i < n → f i ≡ g i) → sum f n ≡ sum g n
+unfolding sum
+sum-cong f g zero h = refl
+sum-cong f g (suc n) h = ap₂ (λ (x y : ℕ). x + y) (sum-cong f g n (λ i l. h i (omega arith))) (h n (omega arith))
+
+-- a first part and the rest
+pub sum-split : (f : ℕ → ℕ) (a b : ℕ) → sum f (a + b) ≡ sum f a + sum (λ i. f (a + i)) b
+unfolding sum
+sum-split f a zero = rw add-zero (omega arith)
+sum-split f a (suc b) = rw add-suc (omega (arith, sum-split f a b))
+
+-- parts of unequal lengths: part z has len z terms, and starts where the parts before it end
+pub sum-cuts : (f len : ℕ → ℕ) (m : ℕ) → sum f (sum len m) ≡ sum (λ z. sum (λ i. f (sum len z + i)) (len z)) m
+unfolding sum
+sum-cuts f len zero = refl
+sum-cuts f len (suc m) = sum-split f (sum len m) (len m) ∙ ap (λ (k : ℕ). k + sum (λ i. f (sum len m + i)) (len m)) (sum-cuts f len m)
+
+pub sum-zero : (f : ℕ → ℕ) (n : ℕ) → ((i : ℕ) → i < n → f i ≡ 0) → sum f n ≡ 0
+unfolding sum
+sum-zero f zero h = refl
+sum-zero f (suc n) h = omega (arith, sum-zero f n (λ i l. h i (omega arith)), h n (omega arith))
+
+pub sum-plus : (f g : ℕ → ℕ) (n : ℕ) → sum (λ i. f i + g i) n ≡ sum f n + sum g n
+unfolding sum
+sum-plus f g zero = refl
+sum-plus f g (suc n) = omega (arith, sum-plus f g n)
+
+pub sum-const : (c n : ℕ) → sum (λ _. c) n ≡ n * c
+unfolding sum
+sum-const c zero = omega arith
+sum-const c (suc n) = omega (arith, sum-const c n)
+
+pub sum-swap : (f : ℕ → ℕ → ℕ) (n m : ℕ) → sum (λ i. sum (f i) m) n ≡ sum (λ j. sum (λ i. f i j) n) m
+unfolding sum
+sum-swap f zero m = sym (sum-zero (λ _. 0) m (λ _ _. refl))
+sum-swap f (suc n) m = ap (λ (x : ℕ). x + sum (f n) m) (sum-swap f n m) ∙ sym (sum-plus (λ j. sum (λ i. f i j) n) (f n) m)
+
+-- all but place k are 0
+pub sum-at : (f : ℕ → ℕ) (k n : ℕ) → ((i : ℕ) → i < n → (i ≡ k → ⊥) → f i ≡ 0) → k < n → sum f n ≡ f k
+unfolding sum
+sum-at f k zero h l = omega arith
+sum-at f k (suc n) h l =
+    ⊎-elim (λ (e : k ≡ n). rw e (omega (arith, sum-zero f n (λ i i<n. h i (omega arith) (omega arith)))))
+    (λ (g : k < n). omega (arith, sum-at f k n (λ i i<n ne. h i (omega arith) ne) g, h n (omega arith) (omega arith)))
+    (eq-or-lt-of-le (le-of-suc-le-suc l))
+
+-- term by term; and more terms
+pub sum-mono : (f g : ℕ → ℕ) (n : ℕ) → ((i : ℕ) → i < n → f i ≤ g i) → sum f n ≤ sum g n
+unfolding sum
+sum-mono f g zero h = le-refl 0
+sum-mono f g (suc n) h = omega (arith, sum-mono f g n (λ i l. h i (omega arith)), h n (omega arith))
+
+pub sum-grows : (f : ℕ → ℕ) (m n : ℕ) → m ≤ n → sum f m ≤ sum f n
+sum-grows f m n h = le-ind (λ (k : ℕ). sum f m ≤ sum f k) (le-refl (sum f m)) (λ k _ ih. omega (arith, sum-suc f k)) n h
+
+pub sum-le : (f : ℕ → ℕ) (b n : ℕ) → ((i : ℕ) → i < n → f i ≤ b) → sum f n ≤ n * b
+sum-le f b n h = omega (arith, sum-mono f (λ _. b) n h, sum-const b n)
+
+-- one term that stays behind
+pub sum-pigeon : (f g : ℕ → ℕ) (n : ℕ) → sum f n < sum g n → (z : ℕ) × (z < n) × (f z < g z)
+unfolding sum
+sum-pigeon f g zero h = absurd (omega arith)
+sum-pigeon f g (suc n) h = go (λ l. sum-pigeon f g n l) (decLt (f n) (g n))
+  where
+    go : (sum f n < sum g n → (z : ℕ) × (z < n) × (f z < g z)) → Dec (f n < g n) → (z : ℕ) × (z < suc n) × (f z < g z)
+    go ih (yes l) = (n, omega arith, l)
+    go ih (no r) = let t = ih (omega arith) in (t .0, omega (arith, t .1), t .2)

@@ -1,0 +1,3 @@
+-- The tools that every definition above uses.
+pub mod Lists
+pub mod Binomials
