@@ -5,7 +5,7 @@ use mathlib.Core.List.{List, [], _∷_, map}
 use Prim.Native.Nat.{ℕ, _-_, _^_}
 use lib.Count.{ones}
 use lib.Ieee.{Float, nan, inf, binary64, ofInt, round, mul, lt, le}
-use Rattle.theory.specs.Lists.{cat, sum, any, same, firstFrom}
+use Rattle.theory.specs.Lists.{cat, sum, any, same, firstFrom, ranked}
 use Rattle.scope.specs.declared.Shape.{Shape}
 use Rattle.scope.specs.declared.Unit.the-variants.{Degrees, Radians}
 use Rattle.scope.specs.Codes.{bit, distance, substring, codeOf}
@@ -13,7 +13,7 @@ use Rattle.scope.specs.Shape.{q, listed, m, firstBit, len, size, startsB
 use Rattle.scope.specs.Tables.{Index, substringOf, builtStarts, builtIds, sound, start, idAt, bucket, badId, bad}
 use Rattle.theory.specs.Binomials.{binomial}
 use Rattle.scope.specs.Walk.{openAfter, distanceOf, opens, opened, tested, near}
-use Rattle.scope.specs.Search.{ranked, nearestSteps, nearest, withinSteps, within}
+use Rattle.scope.specs.Search.{nearestSteps, nearest, withinSteps, within}
 use Rattle.scope.specs.Sky.{angleOf, given, finite, perRadian, degrees, edge, inField, column, angleAt, cellAt, codeFrom}
 use Rattle.scope.specs.Refusals.{refusal, above, unless, lent, ofBlackboard, ofSky}
 use Rattle.scope.specs.Calls.{Asked, report, nearestAnswer, nearestEnd, withinAnswer, withinEnd, searchEnd, blackboardAnswer, skyAnswer}

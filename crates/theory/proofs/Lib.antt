@@ -3,3 +3,4 @@ pub mod Tests
 pub mod Sums
 pub mod Lists
 pub mod Counting
+pub mod Placing
