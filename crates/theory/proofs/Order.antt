@@ -1,0 +1,192 @@
+-- The order of `ranked`: each kept entry once, by key and then by number; and where K of the kept have keys of R or less, their first K are told by those alone. Assumes nothing.
+use mathlib.Core.Path.{_≡_, refl, sym, ap, ap₂, _∙_, subst}
+use mathlib.Core.Logic.{_⊎_, inl, inr, ⊎-elim}
+use mathlib.Core.Bool.{Bool, true, false, _&&_, and-true, and-false, and-assoc, and-comm}
+use mathlib.Core.List.{List, [], _∷_, _++_}
+use Prim.Native.Nat.{ℕ, zero, suc, _+_, _-_, _≤_, _<_}
+use native.Mathlib.Nat.{le-of-suc-le-suc, not-suc-le-zero}
+use native.Mathlib.Omega.{arith}
+use lib.Dec.{eqb, ltb}
+use lib.ListN.{length, take, getD}
+use lib.Seq.{take-append-le}
+use borrow.Author.Tests.{eq-eqb, ne-eqb, eqb-true, eqb-false}
+use Rattle.theory.specs.Lists.{sum, cat, upto, count, ranked}
+use Rattle.theory.proofs.Tests.{either, and-left, oneIf}
+use Rattle.theory.proofs.Sums.{sum-cong, sum-zero}
+use Rattle.theory.proofs.Lists.{cat-cong, cat-split}
+use Rattle.theory.proofs.Counting.{only, upto-cong}
+use Rattle.theory.proofs.Times.{times, times-cat, times-upto, once}
+
+-- ---- lists in order
+
+module _ {A : Type 0} where
+  -- every element has the property; each element stands in the relation to every later one
+  abbrev pub All : (A → Type 0) → List A → Type 0
+  All P [] = Unit {0}
+  All P (x ∷ l) = P x × All P l
+
+  abbrev pub Sorted : (A → A → Type 0) → List A → Type 0
+  Sorted R [] = Unit {0}
+  Sorted R (x ∷ l) = All (R x) l × Sorted R l
+
+module _ {A : Type 0} where
+  pub all-append : (P : A → Type 0) (l m : List A) → All P l → All P m → All P (l ++ m)
+  all-append P [] m h k = k
+  all-append P (x ∷ l) m h k = (h .0, all-append P l m (h .1) k)
+
+  pub all-imp : (P Q : A → Type 0) (l : List A) → ((x : A) → P x → Q x) → All P l → All Q l
+  all-imp P Q [] f h = tt
+  all-imp P Q (x ∷ l) f h = (f x (h .0), all-imp P Q l f (h .1))
+
+  pub all-getD : (P : A → Type 0) (l : List A) (d : A) → All P l → (k : ℕ) → k < length l → P (getD l k d)
+  all-getD P [] d h k i = absurd (not-suc-le-zero i)
+  all-getD P (x ∷ l) d h zero i = h .0
+  all-getD P (x ∷ l) d h (suc k) i = all-getD P l d (h .1) k (le-of-suc-le-suc i)
+
+  sorted-append : (R : A → A → Type 0) (l m : List A) → Sorted R l → Sorted R m → All (λ x. All (R x) m) l → Sorted R (l ++ m)
+  sorted-append R [] m h k c = k
+  sorted-append R (x ∷ l) m h k c = (all-append (R x) l m (h .0) (c .0), sorted-append R l m (h .1) k (c .1))
+
+  -- by place
+  pub sorted-getD : (R : A → A → Type 0) (l : List A) (d : A) → Sorted R l → (j k : ℕ) → j < k → k < length l → R (getD l j d) (getD l k d)
+  sorted-getD R [] d h j k jk kl = absurd (not-suc-le-zero kl)
+  sorted-getD R (x ∷ l) d h j zero jk kl = absurd (not-suc-le-zero jk)
+  sorted-getD R (x ∷ l) d h zero (suc k) jk kl = all-getD (R x) l d (h .0) k (le-of-suc-le-suc kl)
+  sorted-getD R (x ∷ l) d h (suc j) (suc k) jk kl = sorted-getD R l d (h .1) j k (le-of-suc-le-suc jk) (le-of-suc-le-suc kl)
+
+  -- one relation for another, where all elements have a property
+  sorted-imp : (R S : A → A → Type 0) (P : A → Type 0) (l : List A) → ((x y : A) → P x → P y → R x y → S x y) → All P l → Sorted R l → Sorted S l
+  sorted-imp R S P [] f h k = tt
+  sorted-imp R S P (x ∷ l) f h k = (go l (h .1) (k .0), sorted-imp R S P l f (h .1) (k .1))
+    where
+      go : (l : List A) → All P l → All (R x) l → All (S x) l
+      go [] a b = tt
+      go (y ∷ l) a b = (f x y (h .0) (a .0) (b .0), go l (a .1) (b .1))
+
+  pub cat-all : (P : A → Type 0) (f : ℕ → List A) (n : ℕ) → ((i : ℕ) → i < n → All P (f i)) → All P (cat f n)
+  unfolding cat
+  cat-all P f zero h = tt
+  cat-all P f (suc n) h = all-append P (cat f n) (f n) (cat-all P f n (λ i l. h i (omega arith))) (h n (omega arith))
+
+  -- parts that are in order, each of its own key: in order
+  cat-sorted : (R : A → A → Type 0) (key : A → ℕ) → ((x y : A) → key x < key y → R x y) → (f : ℕ → List A)
+      → ((i : ℕ) → All (λ x. key x ≡ i) (f i)) → ((i : ℕ) → Sorted R (f i)) → (n : ℕ) → Sorted R (cat f n)
+  unfolding cat
+  cat-sorted R key less f keys h zero = tt
+  cat-sorted R key less f keys h (suc n) =
+      sorted-append R (cat f n) (f n) (cat-sorted R key less f keys h n) (h n)
+      (all-imp _ _ (cat f n) (λ x l. all-imp _ _ (f n) (λ y e. less x y (omega arith)) (keys n))
+      (cat-all (λ x. key x < n) f n (λ i l. all-imp _ _ (f i) (λ x e. omega arith) (keys i))))
+
+  only-all : (P : A → Type 0) (b : Bool) (x : A) → (b ≡ true → P x) → All P (only b x)
+  only-all P true x h = (h refl, tt)
+  only-all P false x h = tt
+
+  only-sorted : (R : A → A → Type 0) (b : Bool) (x : A) → Sorted R (only b x)
+  only-sorted R true x = (tt, tt)
+  only-sorted R false x = tt
+
+pub upto-all : (P : ℕ → Type 0) (p : ℕ → Bool) (n : ℕ) → ((i : ℕ) → i < n → p i ≡ true → P i) → All P (upto p n)
+upto-all P p n h = cat-all P (λ i. only (p i) i) n (λ i l. only-all P (p i) i (h i l))
+
+pub upto-ascends : (p : ℕ → Bool) (n : ℕ) → Sorted _<_ (upto p n)
+upto-ascends p n = cat-sorted _<_ (λ x. x) (λ x y h. h) (λ i. only (p i) i) (λ i. only-all _ (p i) i (λ _. refl)) (λ i. only-sorted _<_ (p i) i) n
+
+-- ---- ranked
+
+-- smaller key first, then smaller number
+abbrev pub Before : (ℕ → ℕ) → ℕ → ℕ → Type 0
+Before key i j = (key i < key j) ⊎ ((key i ≡ key j) × (i < j))
+
+-- the test holds, and k is one of the numbers below q
+sum-eqb : (b : Bool) (k q : ℕ) → sum (λ d. oneIf (eqb k d && b)) q ≡ oneIf (ltb k q && b)
+sum-eqb true k q =
+    sum-cong _ _ q (λ d _. ap oneIf (and-true (eqb k d))) ∙ sym (times-upto (eqb k) (λ _. true) q) ∙ once (λ _. true) k q
+sum-eqb false k q = sum-zero _ q (λ d _. rw and-false) ∙ sym (rw and-false)
+
+module _ (key : ℕ → ℕ) (keep : ℕ → Bool) (n : ℕ) where
+  keyed : (d : ℕ) → All (λ i. key i ≡ d) (upto (λ i. eqb (key i) d && keep i) n)
+  keyed d = upto-all (λ i. key i ≡ d) (λ i. eqb (key i) d && keep i) n (λ i _ e. eqb-true (key i) d (and-left (eqb (key i) d) (keep i) e))
+
+  pub ranked-sorted : (q : ℕ) → Sorted (Before key) (ranked key keep n q)
+  unfolding ranked
+  ranked-sorted =
+      cat-sorted (Before key) key (λ x y h. inl h) (λ d. upto (λ i. eqb (key i) d && keep i) n) keyed
+      (λ d. sorted-imp _<_ (Before key) (λ i. key i ≡ d) (upto (λ i. eqb (key i) d && keep i) n) (λ x y a b l. inr (a ∙ sym b, l)) (keyed d)
+      (upto-ascends (λ i. eqb (key i) d && keep i) n))
+
+  -- each that is kept and near enough, once; and no other
+  pub ranked-once : (i q : ℕ) → times (eqb i) (ranked key keep n q) ≡ oneIf (ltb i n && (ltb (key i) q && keep i))
+  unfolding ranked
+  ranked-once i q =
+      times-cat (eqb i) (λ d. upto (λ i. eqb (key i) d && keep i) n) q
+      ∙ sum-cong _ _ q (λ d _. once (λ i. eqb (key i) d && keep i) i n ∙ ap oneIf (turn (ltb i n) (eqb (key i) d) (keep i)))
+      ∙ sum-eqb (ltb i n && keep i) (key i) q ∙ ap oneIf (sym (turn (ltb i n) (ltb (key i) q) (keep i)))
+    where
+      turn : (a b c : Bool) → (a && (b && c)) ≡ (b && (a && c))
+      turn true b c = refl
+      turn false b c = sym (and-false b)
+
+-- only what is kept among the near ones matters
+pub ranked-cong : (key : ℕ → ℕ) (keep kept : ℕ → Bool) (n q : ℕ) → ((i : ℕ) → i < n → key i < q → keep i ≡ kept i)
+    → ranked key keep n q ≡ ranked key kept n q
+unfolding ranked
+ranked-cong key keep kept n q h =
+    cat-cong _ _ q (λ d ld. upto-cong _ _ n (λ i li.
+    ⊎-elim (λ (e : eqb (key i) d ≡ true). ap (λ (b : Bool). eqb (key i) d && b) (h i li (omega (arith, eqb-true (key i) d e))))
+    (λ (e : eqb (key i) d ≡ false). rw e) (either (eqb (key i) d))))
+
+-- and only the keys of entries
+pub ranked-keys : (key key′ : ℕ → ℕ) (keep : ℕ → Bool) (n q : ℕ) → ((i : ℕ) → i < n → key i ≡ key′ i) → ranked key keep n q ≡ ranked key′ keep n q
+unfolding ranked
+ranked-keys key key′ keep n q h = cat-cong _ _ q (λ d _. upto-cong _ _ n (λ i li. ap (λ (x : ℕ). eqb x d && keep i) (h i li)))
+
+-- the near ones come first
+pub ranked-front : (key : ℕ → ℕ) (keep : ℕ → Bool) (n R q : ℕ) → R ≤ q → (t : List ℕ) × (ranked key keep n q ≡ ranked key keep n R ++ t)
+unfolding ranked
+ranked-front key keep n R q h =
+    let f : ℕ → List ℕ = λ d. upto (λ i. eqb (key i) d && keep i) n in
+    let e : q ≡ R + (q - R) = omega arith in
+    (cat (λ i. f (R + i)) (q - R), ap (cat f) e ∙ cat-split f R (q - R))
+
+-- where two sets agree on the entries with keys below R, and K of those are in them, their first K are the same
+pub first-ranked : (key : ℕ → ℕ) (keep kept : ℕ → Bool) (n R q K : ℕ) → R ≤ q → ((i : ℕ) → i < n → key i < R → keep i ≡ kept i)
+    → K ≤ length (ranked key kept n R) → take K (ranked key keep n q) ≡ take K (ranked key kept n q)
+first-ranked key keep kept n R q K h agree hK = near keep (ranked-cong key keep kept n R agree) ∙ sym (near kept refl)
+  where
+    near : (k : ℕ → Bool) → ranked key k n R ≡ ranked key kept n R → take K (ranked key k n q) ≡ take K (ranked key kept n R)
+    near k same =
+        let (t, e) = ranked-front key k n R q h in
+        let room : K ≤ length (ranked key k n R) = rw same hK in
+        ap (take K) e ∙ take-append-le K (ranked key k n R) t room ∙ ap (take K) same
+
+-- ---- the order and the members tell the list
+
+all-times : (P : ℕ → Type 0) (x : ℕ) (l : List ℕ) → All P l → 0 < times (eqb x) l → P x
+unfolding times
+all-times P x [] h t = absurd (omega arith)
+all-times P x (y ∷ l) h t =
+    ⊎-elim (λ e. subst P (sym (eqb-true x y e)) (h .0)) (λ e. all-times P x l (h .1) (let t′ = rw e at t in omega (arith, t′))) (either (eqb x y))
+
+before-asym : (key : ℕ → ℕ) (x y : ℕ) → Before key x y → Before key y x → ⊥
+before-asym key x y (inl a) (inl b) = omega arith
+before-asym key x y (inl a) (inr b) = omega arith
+before-asym key x y (inr a) (inl b) = omega arith
+before-asym key x y (inr a) (inr b) = omega arith
+
+-- two lists in this order that hold each number equally often are one list
+pub order-unique : (key : ℕ → ℕ) (l l′ : List ℕ) → Sorted (Before key) l → Sorted (Before key) l′ → ((i : ℕ) → times (eqb i) l ≡ times (eqb i) l′) → l ≡ l′
+unfolding times
+order-unique key [] [] h h′ e = refl
+order-unique key [] (y ∷ l′) h h′ e = absurd (let n = rw (eq-eqb y y refl) at (e y) in omega (arith, n))
+order-unique key (x ∷ l) [] h h′ e = absurd (let n = rw (eq-eqb x x refl) at (e x) in omega (arith, n))
+order-unique key (x ∷ l) (y ∷ l′) h h′ e =
+    ⊎-elim
+    (λ (b : eqb x y ≡ true).
+    let same : x ≡ y = eqb-true x y b in
+    ap₂ (λ (x : ℕ) (l : List ℕ). x ∷ l) same (order-unique key l l′ (h .1) (h′ .1) (λ i. let n = rw same at (e i) in omega (arith, n))))
+    (λ (b : eqb x y ≡ false).
+    let x-later : 0 < times (eqb x) l′ = let n = rw (eq-eqb x x refl, b) at (e x) in omega (arith, n) in
+    let y-later : 0 < times (eqb y) l = let n = rw (eq-eqb y y refl, ne-eqb y x (λ p. eqb-false x y b (sym p))) at (e y) in omega (arith, n) in
+    absurd (before-asym key x y (all-times (Before key x) y l (h .0) y-later) (all-times (Before key y) x l′ (h′ .0) x-later)))
+    (either (eqb x y))
