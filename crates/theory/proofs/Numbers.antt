@@ -1,6 +1,6 @@
 -- Numbers put together from bits: their bound, their ones, operations on their bits, and the bits taken out again. Assumes nothing.
-use mathlib.Core.Path.{_≡_, refl, sym, ap, ap₂, _∙_, subst}
-use Prim.Native.Nat.{ℕ, zero, suc, _+_, _-_, _*_, _/_, _%_, _^_, _≤_, _<_}
+use mathlib.Core.Path.{_≡_, refl, sym, ap, ap₂, _∙_}
+use Prim.Native.Nat.{ℕ, zero, suc, _+_, _-_, _*_, _/_, _%_, _^_, _<_}
 use native.Mathlib.Nat.{add-comm, add-zero, add-suc, add-mul, mul-assoc, mul-comm, mod-one, mod-lt, mod-eq-of-lt, pow-suc, one-mul, zero-add, zero-lt-suc}
 use native.Mathlib.Numerals.{one-add}
 use native.Mathlib.Omega.{arith}

@@ -5,17 +5,11 @@ use native.Mathlib.Nat.{mod-lt, div-add-mod', zero-lt-suc}
 use native.Mathlib.Omega.{arith}
 use lib.Arith.{bin-ind, digits-mod}
 use lib.Bits.{bitXor, differ, xor-step, xor-shr}
+use Rattle.theory.proofs.Numbers.{differ-lt}
 use lib.Dec.{eqb}
 use Rattle.theory.proofs.Tests.{eqb-iff}
 
 -- ---- of digits
-
-pub differ-lt : (x y : ℕ) → x < 2 → y < 2 → differ x y < 2
-differ-lt zero y hx hy = hy
-differ-lt (suc x) zero hx hy = hx
-differ-lt (suc zero) (suc zero) hx hy = omega arith
-differ-lt (suc zero) (suc (suc y)) hx hy = absurd (omega arith)
-differ-lt (suc (suc x)) (suc y) hx hy = absurd (omega arith)
 
 differ-undo : (x y : ℕ) → x < 2 → y < 2 → differ x (differ x y) ≡ y
 differ-undo zero y hx hy = refl

@@ -1,0 +1,3 @@
+-- Laws of codes and of marks.
+pub mod Codes
+pub mod Marks

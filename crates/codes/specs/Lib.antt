@@ -1,0 +1,2 @@
+-- Marks, as the searches lend them to the leaves.
+pub mod Marks

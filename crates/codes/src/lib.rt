@@ -1,0 +1,79 @@
+// Leaves over 64-bit words: distance, substrings, marks.
+ghost use mathlib.Core.Path.{_≡_};
+ghost use mathlib.Core.List.{[]};
+ghost use Prim.Native.Nat.{_+_, _*_, _≤_, _<_};
+ghost use lib.ListN.{length};
+ghost use Rattle.theory.specs.Lists.{over, padded};
+ghost use Rattle.scope.specs.Codes as spec;
+ghost use Rattle.scope.specs.Codes.{codeOf};
+ghost use Rattle.codes.specs.Marks.{isMarked, withMark};
+
+// How many bits of entry i's code and the query differ.
+pub fn distance(codes: &[u64], i: usize, w: usize, query: &[u64]) -> u32
+    requires { ⌜ (w ≤ 4) × (i * w + w ≤ length (now codes)) × (w ≤ length (now query)) ⌝ }
+    ensures { λ r. ⌜ r ≡ spec.distance (64 * w) (codeOf w (now (codes .entry)) i) (now (query .entry)) ⌝ }
+{
+    let at = i * w;
+    let mut r: u32 = 0;
+    let mut k = 0;
+    while k < w {
+        r += u64::count_ones(codes[at + k] ^ query[k]);
+        k += 1;
+    }
+    r
+}
+
+// The len bits of a code from bit `from` on, as a number. They may cross from one word into the next.
+pub fn substring(code: &[u64], from: usize, len: usize) -> usize
+    requires { ⌜ (1 ≤ len) × (len ≤ 32) × (from + len ≤ 64 * length (now code)) ⌝ }
+    ensures { λ r. ⌜ r ≡ spec.substring from len (now (code .entry)) ⌝ }
+{
+    let k = from / 64;
+    let o = from % 64;
+    if o + len <= 64 {
+        ((code[k] >> o) % (1 << len)) as usize
+    } else {
+        let low = 64 - o;
+        let high = code[k + 1] % (1 << (len - low));
+        ((code[k] >> o) + (high << low)) as usize
+    }
+}
+
+// The same of entry i's code.
+pub fn entry_substring(codes: &[u64], i: usize, w: usize, from: usize, len: usize) -> usize
+    requires { ⌜ (1 ≤ len) × (len ≤ 32) × (w ≤ 4) × (from + len ≤ 64 * w) × (i * w + w ≤ length (now codes)) ⌝ }
+    ensures { λ r. ⌜ r ≡ spec.substring from len (codeOf w (now (codes .entry)) i) ⌝ }
+{
+    let a = i * w;
+    let e = a + w;
+    substring(&codes[a..e], from, len)
+}
+
+// Whether entry i is marked.
+pub fn marked(marks: &[u64], i: usize) -> bool
+    requires { ⌜ i < 64 * length (now marks) ⌝ }
+    ensures { λ r. ⌜ r ≡ isMarked (now (marks .entry)) i ⌝ }
+{
+    (marks[i / 64] >> (i % 64)) % 2 == 1
+}
+
+// Entry i becomes marked.
+pub fn mark(marks: &mut [u64], i: usize)
+    requires { ⌜ i < 64 * length (now marks) ⌝ }
+    ensures { λ _. ⌜ now (marks .exit) ≡ withMark (now (marks .entry)) i ⌝ }
+{
+    let k = i / 64;
+    marks[k] = marks[k] | (1 << (i % 64));
+}
+
+// The first n words become 0, the others stay.
+pub fn clear(marks: &mut [u64], n: usize)
+    requires { ⌜ n ≤ length (now marks) ⌝ }
+    ensures { λ _. ⌜ now (marks .exit) ≡ over (padded n []) (now (marks .entry)) ⌝ }
+{
+    let mut k = 0;
+    while k < n {
+        marks[k] = 0;
+        k += 1;
+    }
+}
