@@ -3,13 +3,11 @@ use mathlib.Core.Path.{_≡_, refl, sym, ap, ap₂, _∙_}
 use Prim.Native.Nat.{ℕ, zero, suc, _+_, _*_, _/_, _%_, _<_}
 use native.Mathlib.Nat.{mod-lt, div-add-mod', zero-lt-suc}
 use native.Mathlib.Omega.{arith}
-use lib.Arith.{bin-ind, digits-mod}
-use lib.Bits.{bitXor, differ, xor-step, xor-shr}
-use Rattle.theory.proofs.Numbers.{differ-lt}
+use lib.Arith.{bin-ind}
+use lib.Bits.{bitXor, differ, xor-step, xor-shr, xor-mod}
 use lib.Dec.{eqb}
 use Rattle.theory.proofs.Tests.{eqb-iff}
-
--- ---- of digits
+use Rattle.theory.proofs.Numbers.{xor-bits}
 
 differ-undo : (x y : ℕ) → x < 2 → y < 2 → differ x (differ x y) ≡ y
 differ-undo zero y hx hy = refl
@@ -21,11 +19,9 @@ differ-undo (suc (suc x)) y hx hy = absurd (omega arith)
 digit : (a : ℕ) → a % 2 < 2
 digit a = mod-lt a (zero-lt-suc 1)
 
--- ---- of numbers
-
 -- the low digit
-pub xor-low : (a b : ℕ) → bitXor a b % 2 ≡ differ (a % 2) (b % 2)
-xor-low a b = ap (λ (n : ℕ). n % 2) (xor-step a b) ∙ digits-mod (bitXor (a / 2) (b / 2)) (differ-lt (a % 2) (b % 2) (digit a) (digit b))
+xor-low : (a b : ℕ) → bitXor a b % 2 ≡ differ (a % 2) (b % 2)
+xor-low a b = xor-mod a b 1 ∙ xor-bits (a % 2) (b % 2) (digit a) (digit b)
 
 pub xor-undo : (a b : ℕ) → bitXor a (bitXor a b) ≡ b
 xor-undo =

@@ -1,0 +1,3 @@
+-- Laws behind the blackboard's count, and what it counts.
+pub mod Steps
+pub mod Answers
