@@ -8,7 +8,7 @@ use native.Mathlib.Nat.{div-eq-of-lt, mod-lt, zero-lt-suc, one-mul, max-zero, ma
 use native.Mathlib.Omega.{arith}
 use borrow.Author.Tests.{eq-eqb}
 use lib.Dec.{eqb}
-use lib.ListN.{length, getD, set, length-set, List·getD-append}
+use lib.ListN.{length, getD, length-set, List·getD-append}
 use lib.Seq.{getD-set-same, getD-set-other}
 use lib.Pow.{pow-add, pow-lt, shl-shr}
 use lib.Bits.{bitOr, or-shr, or-mod}

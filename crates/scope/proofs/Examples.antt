@@ -10,14 +10,14 @@ use Rattle.scope.specs.declared.Shape.{Shape}
 use Rattle.scope.specs.declared.Unit.the-variants.{Degrees, Radians}
 use Rattle.scope.specs.Codes.{bit, distance, substring, codeOf}
 use Rattle.scope.specs.Shape.{q, listed, m, firstBit, len, size, startsBefore}
-use Rattle.scope.specs.Tables.{Index, substringOf, builtStarts, builtIds, sound, start, idAt, bucket, badId, bad}
+use Rattle.scope.specs.Tables.{substringOf, builtStarts, builtIds, sound, start, idAt, bucket, badId, bad}
 use Rattle.theory.specs.Binomials.{binomial}
 use Rattle.scope.specs.Walk.{openAfter, distanceOf, opens, opened, tested, near}
 use Rattle.scope.specs.Search.{nearestSteps, nearest, withinSteps, within}
 use Rattle.scope.specs.Sky.{angleOf, given, finite, perRadian, degrees, edge, inField, column, angleAt, cellAt, codeFrom}
 use Rattle.scope.specs.Refusals.{refusal, above, unless, lent, ofBlackboard, ofSky}
-use Rattle.scope.specs.Calls.{Asked, report, nearestAnswer, nearestEnd, withinAnswer, withinEnd, searchEnd, blackboardAnswer, skyAnswer}
-use Rattle.scope.proofs.CatalogueA.{a, spoiled, ask, asked, End, shown}
+use Rattle.scope.specs.Calls.{report, nearestAnswer, nearestEnd, withinAnswer, withinEnd, searchEnd, blackboardAnswer, skyAnswer}
+use Rattle.scope.proofs.CatalogueA.{a, spoiled, ask, asked, shown}
 
 abbrev shape : ℕ → ℕ → Shape
 shape w s = record { w = w; s = s }

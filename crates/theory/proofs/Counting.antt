@@ -1,20 +1,19 @@
 -- Laws of `upto` and `count`: the numbers below n that pass a test. Assumes nothing.
-use mathlib.Core.Path.{_≡_, refl, sym, ap, ap₂, _∙_, subst}
+use mathlib.Core.Path.{_≡_, refl, sym, ap, _∙_}
 use mathlib.Core.Logic.{_⊎_, inl, inr, ⊎-elim}
-use mathlib.Core.Bool.{Bool, true, false, _&&_, _||_, cond, and-true, and-false, or-false}
-use mathlib.Core.List.{List, [], _∷_, _++_, map, append-nil}
-use Prim.Native.Nat.{ℕ, zero, suc, _+_, _-_, _*_, _≤_, _<_}
-use native.Mathlib.Nat.{add-zero, le-refl, not-suc-le-zero}
+use mathlib.Core.Bool.{Bool, true, false, _&&_, _||_, cond, or-false}
+use mathlib.Core.List.{List, [], _∷_, _++_, append-nil}
+use Prim.Native.Nat.{ℕ, zero, suc, _+_, _≤_, _<_}
+use native.Mathlib.Nat.{le-refl, not-suc-le-zero}
 use native.Mathlib.Decide.{le-ind}
-use native.Mathlib.Numerals.{add-one}
 use native.Mathlib.Omega.{arith}
-use lib.Dec.{eqb, ltb}
+use lib.Dec.{ltb}
 use lib.ListN.{length, getD, length-append, List·getD-append}
 use lib.Seq.{getD-at}
-use borrow.Author.Tests.{eq-eqb, ne-eqb, lt-ltb, le-ltb, eqb-true}
+use borrow.Author.Tests.{eq-eqb, ne-eqb, lt-ltb, le-ltb}
 use Rattle.theory.specs.Lists.{sum, cat, upto, count, any, has}
-use Rattle.theory.proofs.Tests.{either, lt-or-le, eq-or-ne, or-left, and-left, and-right, same-test, oneIf, oneIf-le}
-use Rattle.theory.proofs.Sums.{sum-suc, sum-cong, sum-zero, sum-at}
+use Rattle.theory.proofs.Tests.{lt-or-le, eq-or-ne, oneIf, oneIf-le}
+use Rattle.theory.proofs.Sums.{sum-cong}
 use Rattle.theory.proofs.Lists.{cat-suc, length-cat, cat-cong, has-append, has-one, has-none}
 
 module _ {A : Type 0} where

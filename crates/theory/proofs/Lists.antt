@@ -1,20 +1,18 @@
 -- Laws of the list tools. Assumes nothing.
 use mathlib.Core.Path.{_≡_, refl, sym, ap, ap₂, _∙_, subst}
 use mathlib.Core.Logic.{_⊎_, inl, inr, ⊎-elim}
-use mathlib.Core.Bool.{Bool, true, false, _&&_, _||_, cond, or-false, or-assoc}
+use mathlib.Core.Bool.{Bool, true, false, _||_, or-false, or-assoc}
 use mathlib.Core.List.{List, [], _∷_, _++_, map, append-assoc, append-nil}
-use Prim.Native.Nat.{ℕ, zero, suc, _+_, _-_, _*_, _≤_, _<_}
-use native.Mathlib.Nat.{add-zero, add-suc, zero-add, eq-or-lt-of-le, not-suc-le-zero, le-refl, zero-mul, suc-mul}
+use Prim.Native.Nat.{ℕ, zero, suc, _+_, _-_, _≤_, _<_}
+use native.Mathlib.Nat.{add-zero, add-suc, eq-or-lt-of-le}
 use native.Mathlib.Decide.{le-ind}
-use native.Mathlib.Numerals.{add-one}
 use native.Mathlib.Omega.{arith}
 use lib.Dec.{eqb}
-use lib.ListN.{length, getD, take, drop, set, replicate, length-append, length-drop, length-set, take-append-drop, length-replicate, getD-replicate, List·getD-append}
+use lib.ListN.{length, getD, take, drop, set, replicate, length-append, length-drop, length-set, length-replicate, getD-replicate, List·getD-append}
 use lib.Seq.{ext-getD, getD-at, set-at, drop-cons, take-at, drop-at, getD-set-same, getD-set-other}
-use borrow.Author.Tests.{eqb-true, eq-eqb, ne-eqb}
-use Rattle.theory.specs.Lists.{sum, firstFrom, first, cat, tab, any, over, between, has, same, padded}
-use Rattle.theory.proofs.Tests.{both-ways, either, lt-or-le, eq-or-ne, or-true, or-left, or-right, and-left, and-right, same-test, oneIf}
-use Rattle.theory.proofs.Sums.{sum-cong}
+use borrow.Author.Tests.{eqb-true, eq-eqb}
+use Rattle.theory.specs.Lists.{sum, firstFrom, cat, tab, any, over, between, has, same, padded}
+use Rattle.theory.proofs.Tests.{both-ways, eq-or-ne, or-true, or-left, or-right, and-left, and-right}
 
 -- ---- first
 

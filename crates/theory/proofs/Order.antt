@@ -1,7 +1,7 @@
 -- The order of `ranked`: each kept entry once, by key and then by number; and where K of the kept have keys of R or less, their first K are told by those alone. Assumes nothing.
 use mathlib.Core.Path.{_≡_, refl, sym, ap, ap₂, _∙_, subst}
 use mathlib.Core.Logic.{_⊎_, inl, inr, ⊎-elim}
-use mathlib.Core.Bool.{Bool, true, false, _&&_, and-true, and-false, and-assoc, and-comm}
+use mathlib.Core.Bool.{Bool, true, false, _&&_, and-true, and-false}
 use mathlib.Core.List.{List, [], _∷_, _++_}
 use Prim.Native.Nat.{ℕ, zero, suc, _+_, _-_, _≤_, _<_}
 use native.Mathlib.Nat.{le-of-suc-le-suc, not-suc-le-zero}
@@ -10,7 +10,7 @@ use lib.Dec.{eqb, ltb}
 use lib.ListN.{length, take, getD}
 use lib.Seq.{take-append-le}
 use borrow.Author.Tests.{eq-eqb, ne-eqb, eqb-true, eqb-false}
-use Rattle.theory.specs.Lists.{sum, cat, upto, count, ranked}
+use Rattle.theory.specs.Lists.{sum, cat, upto, ranked}
 use Rattle.theory.proofs.Tests.{either, and-left, oneIf}
 use Rattle.theory.proofs.Sums.{sum-cong, sum-zero}
 use Rattle.theory.proofs.Lists.{cat-cong, cat-split}

@@ -1,12 +1,11 @@
 -- `codes::clear` meets its contract. The loop's invariant: the words passed are zeros, written over the others. Assumes nothing.
 use mathlib.Core.Path.{_≡_, refl, sym, ap, _∙_}
-use mathlib.Core.List.{List, [], _∷_, _++_, append-assoc}
-use Prim.Native.Nat.{ℕ, suc, _+_, _-_, _≤_, _<_}
+use mathlib.Core.List.{List, []}
+use Prim.Native.Nat.{ℕ, _+_, _-_, _≤_, _<_}
 use native.Mathlib.Numerals.{add-one}
 use native.Mathlib.Omega.{arith}
 use borrow.Author.Needs.{needs}
-use lib.ListN.{length, getD, drop, set, length-set, length-append}
-use lib.Seq.{drop-cons, set-at}
+use lib.ListN.{length, getD, set, length-set}
 use Rattle.theory.specs.Lists.{cat, over, padded}
 use Rattle.theory.proofs.Lists.{tab-suc, length-padded, over-next}
 use Rattle.codes.proofs.clear.Statement.{statement}
