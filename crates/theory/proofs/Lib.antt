@@ -6,6 +6,7 @@ pub mod Counting
 pub mod Times
 pub mod Order
 pub mod Placing
+pub mod Digits
 pub mod Numbers
 pub mod Xor
 pub mod Masks

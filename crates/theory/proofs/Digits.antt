@@ -1,0 +1,58 @@
+-- The binary digits of a number: of `or`, of `and`, of a power of two; numbers with the same digits are equal. Assumes nothing.
+use mathlib.Core.Path.{_≡_, sym, ap, ap₂, _∙_}
+use mathlib.Core.Logic.{⊎-elim}
+use Prim.Native.Nat.{ℕ, zero, suc, _+_, _-_, _*_, _/_, _%_, _^_, _≤_, _<_, max}
+use native.Mathlib.Nat.{div-eq-of-lt, mod-eq-of-lt, max-le, one-mul, mul-mod-left, pow-suc}
+use native.Mathlib.Omega.{arith}
+use lib.Dec.{eqb}
+use lib.Bits.{bitOr, or-shr, or-step}
+use lib.Pow.{pow-add, pow-lt, pow-mono, shl-shr, low, mod-pow-add}
+use borrow.Author.Tests.{eq-eqb, ne-eqb}
+use Rattle.theory.proofs.Tests.{eq-or-ne, lt-or-le, oneIf}
+
+abbrev pub digit : ℕ → ℕ → ℕ
+digit a j = a / 2 ^ j % 2
+
+pub digit-or : (a b j : ℕ) → digit (bitOr a b) j ≡ max (digit a j) (digit b j)
+digit-or a b j =
+    let x = a / 2 ^ j in
+    let y = b / 2 ^ j in
+    let small : max (x % 2) (y % 2) ≤ 1 = max-le (omega arith) (omega arith) in
+    ap (λ (n : ℕ). n % 2) (or-shr a b j ∙ or-step x y) ∙ low (bitOr (x / 2) (y / 2)) 1 (omega arith)
+
+-- the one digit of 2 ^ i
+pub digit-power : (i j : ℕ) → digit (2 ^ i) j ≡ oneIf (eqb j i)
+digit-power i j = ⊎-elim same other (eq-or-ne j i)
+  where
+    same : j ≡ i → digit (2 ^ i) j ≡ oneIf (eqb j i)
+    same e =
+        let one : digit (2 ^ j) j ≡ 1 = ap (λ (n : ℕ). n / 2 ^ j % 2) (sym (one-mul (2 ^ j))) ∙ ap (λ (n : ℕ). n % 2) (shl-shr 1 j) in
+        rw (eq-eqb j i e, ← e) one
+
+    other : (j ≡ i → ⊥) → digit (2 ^ i) j ≡ oneIf (eqb j i)
+    other ne =
+        rw (ne-eqb j i ne)
+        (⊎-elim (λ l. ap (λ (n : ℕ). n % 2) (div-eq-of-lt (pow-lt l)))
+        (λ g.
+        let d = i - suc j in
+        let e : i ≡ suc d + j = omega arith in
+        rw (e, pow-add, shl-shr (2 ^ suc d) j, pow-suc) (mul-mod-left (2 ^ d) 2))
+        (lt-or-le i j))
+
+lt-power : (n : ℕ) → n < 2 ^ n
+lt-power zero = omega arith
+lt-power (suc n) = omega (arith, lt-power n, pow-suc 2 n)
+
+low-digits : (a b n : ℕ) → ((j : ℕ) → digit a j ≡ digit b j) → a % 2 ^ n ≡ b % 2 ^ n
+low-digits a b zero h = omega arith
+low-digits a b (suc n) h =
+    let one : suc n ≡ 1 + n = omega arith in
+    rw one
+    (mod-pow-add a 1 n ∙ ap₂ (λ (high rest : ℕ). high * 2 ^ n + rest) (h n) (low-digits a b n h) ∙ sym (mod-pow-add b 1 n))
+
+pub same-digits : (a b : ℕ) → ((j : ℕ) → digit a j ≡ digit b j) → a ≡ b
+same-digits a b h =
+    sym (mod-eq-of-lt (below a (omega arith))) ∙ low-digits a b (a + b) h ∙ mod-eq-of-lt (below b (omega arith))
+  where
+    below : (c : ℕ) → c ≤ a + b → c < 2 ^ (a + b)
+    below c l = omega (arith, lt-power c, pow-mono l)
