@@ -1,12 +1,13 @@
 -- The binary digits of a number: of `or`, of `and`, of a power of two; numbers with the same digits are equal. Assumes nothing.
 use mathlib.Core.Path.{_≡_, sym, ap, ap₂, _∙_}
 use mathlib.Core.Logic.{⊎-elim}
-use Prim.Native.Nat.{ℕ, zero, suc, _+_, _-_, _*_, _/_, _%_, _^_, _≤_, _<_, max}
+use Prim.Native.Nat.{ℕ, zero, suc, _+_, _-_, _*_, _/_, _%_, _^_, _≤_, _<_, max, min}
 use native.Mathlib.Nat.{div-eq-of-lt, mod-eq-of-lt, max-le, one-mul, mul-mod-left, pow-suc}
+use native.Mathlib.Numerals.{one-add}
 use native.Mathlib.Omega.{arith}
 use lib.Dec.{eqb}
-use lib.Bits.{bitOr, or-shr, or-step}
-use lib.Pow.{pow-add, pow-lt, pow-mono, shl-shr, low, mod-pow-add}
+use lib.Bits.{bitOr, or-shr, or-step, bitAnd, and-shr, and-step}
+use lib.Pow.{pow-add, pow-lt, pow-mono, shl-shr, shr-shr, low, mod-pow-add}
 use borrow.Author.Tests.{eq-eqb, ne-eqb}
 use Rattle.theory.proofs.Tests.{eq-or-ne, lt-or-le, oneIf}
 
@@ -19,6 +20,15 @@ digit-or a b j =
     let y = b / 2 ^ j in
     let small : max (x % 2) (y % 2) ≤ 1 = max-le (omega arith) (omega arith) in
     ap (λ (n : ℕ). n % 2) (or-shr a b j ∙ or-step x y) ∙ low (bitOr (x / 2) (y / 2)) 1 (omega arith)
+
+-- digit k + 1 of x is digit k of its half
+pub digit-suc : (x k : ℕ) → digit x (suc k) ≡ digit (x / 2) k
+digit-suc x k = sym (ap (λ (y : ℕ). y % 2) (shr-shr x 1 k ∙ ap (λ (j : ℕ). x / 2 ^ j) (one-add k)))
+
+pub digit-and : (x y k : ℕ) → digit (bitAnd x y) k ≡ min (digit x k) (digit y k)
+digit-and x y k =
+    ap (λ (z : ℕ). z % 2) (and-shr x y k ∙ and-step (x / 2 ^ k) (y / 2 ^ k))
+    ∙ omega arith
 
 -- the one digit of 2 ^ i
 pub digit-power : (i j : ℕ) → digit (2 ^ i) j ≡ oneIf (eqb j i)

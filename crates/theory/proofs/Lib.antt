@@ -2,6 +2,7 @@
 pub mod Tests
 pub mod Sums
 pub mod Lists
+pub mod Filling
 pub mod Counting
 pub mod Times
 pub mod Order

@@ -9,7 +9,7 @@ use native.Mathlib.Decide.{le-ind}
 use native.Mathlib.Omega.{arith}
 use lib.Dec.{eqb}
 use lib.ListN.{length, getD, take, drop, set, replicate, length-append, length-drop, length-set, length-replicate, getD-replicate, List·getD-append}
-use lib.Seq.{ext-getD, getD-at, set-at, drop-cons, take-at, drop-at, getD-set-same, getD-set-other}
+use lib.Seq.{ext-getD, getD-at, take-at, drop-at, getD-set-same, getD-set-other}
 use borrow.Author.Tests.{eqb-true, eq-eqb}
 use Rattle.theory.specs.Lists.{sum, firstFrom, cat, tab, any, over, between, has, same, padded}
 use Rattle.theory.proofs.Tests.{both-ways, eq-or-ne, or-true, or-left, or-right, and-left, and-right}
@@ -201,15 +201,6 @@ module _ {A : Type 0} where
 
   pub length-over : (l old : List A) → length l ≤ length old → length (over l old) ≡ length old
   length-over l old h = length-append l (drop (length l) old) ∙ simp length-drop (omega arith)
-
--- one place more of what is written over a list
-pub over-next : (l old : List ℕ) (x k : ℕ) → length l ≡ k → k < length old → set (over l old) k x ≡ over (l ++ x ∷ []) old
-over-next l old x k e h =
-    let more : length (l ++ x ∷ []) ≡ suc k = length-append l (x ∷ []) ∙ omega arith in
-    ap (λ (n : ℕ). set (l ++ drop n old) k x) e
-    ∙ ap (λ (t : List ℕ). set (l ++ t) k x) (drop-cons old k 0 h)
-    ∙ set-at l (getD old k 0) (drop (suc k) old) x k e
-    ∙ sym (ap (λ (n : ℕ). (l ++ x ∷ []) ++ drop n old) more ∙ append-assoc l (x ∷ []) (drop (suc k) old))
 
 -- ---- between
 

@@ -1,13 +1,12 @@
 -- `codes::clear` meets its contract. The loop's invariant: the words passed are zeros, written over the others. Assumes nothing.
-use mathlib.Core.Path.{_≡_, refl, sym, ap, _∙_}
+use mathlib.Core.Path.{_≡_, refl, ap, _∙_}
 use mathlib.Core.List.{List, []}
 use Prim.Native.Nat.{ℕ, _+_, _-_, _≤_, _<_}
-use native.Mathlib.Numerals.{add-one}
 use native.Mathlib.Omega.{arith}
 use borrow.Author.Needs.{needs}
 use lib.ListN.{length, getD, set, length-set}
 use Rattle.theory.specs.Lists.{cat, over, padded}
-use Rattle.theory.proofs.Lists.{tab-suc, length-padded, over-next}
+use Rattle.theory.proofs.Filling.{fill-next}
 use Rattle.codes.proofs.clear.Statement.{statement}
 use Rattle.codes.proofs.clear.Tie as tie
 
@@ -18,9 +17,7 @@ abbrev μ-loop : tie.MeasureT-loop
 μ-loop marks₀ n k₀ marks k = n - k
 
 step : (old : List ℕ) (k : ℕ) → k < length old → set (over (padded k []) old) k 0 ≡ over (padded (k + 1) []) old
-step old k h =
-    over-next (padded k []) old 0 k (length-padded k []) h
-    ∙ sym (ap (λ (n : ℕ). over (padded n []) old) (add-one k) ∙ ap (λ (l : List ℕ). over l old) (tab-suc (λ p. getD [] p 0) k))
+step old k h = fill-next (λ p. getD [] p 0) old k h
 
 loop-holds : tie.Need-loop-holds Inv-loop μ-loop
 unfolding cat

@@ -1,0 +1,5 @@
+-- Laws of placing: the set bits of a word, the marked entries word by word, the order of answers, and what `rank` is lent.
+pub mod Lowest
+pub mod Marked
+pub mod Answers
+pub mod Ranking
