@@ -3,9 +3,11 @@ pub mod Tests
 pub mod Sums
 pub mod Lists
 pub mod Filling
+pub mod Parts
 pub mod Counting
 pub mod Times
 pub mod Order
+pub mod Elements
 pub mod Placing
 pub mod Digits
 pub mod Numbers

@@ -4,7 +4,7 @@ use mathlib.Core.Logic.{_⊎_, inl, inr, ⊎-elim}
 use mathlib.Core.Bool.{Bool, true, false, _||_, or-false, or-assoc}
 use mathlib.Core.List.{List, [], _∷_, _++_, map, append-assoc, append-nil}
 use Prim.Native.Nat.{ℕ, zero, suc, _+_, _-_, _≤_, _<_}
-use native.Mathlib.Nat.{add-zero, add-suc, eq-or-lt-of-le}
+use native.Mathlib.Nat.{add-zero, add-suc, eq-or-lt-of-le, le-refl}
 use native.Mathlib.Decide.{le-ind}
 use native.Mathlib.Omega.{arith}
 use lib.Dec.{eqb}
@@ -12,7 +12,7 @@ use lib.ListN.{length, getD, take, drop, set, replicate, length-append, length-d
 use lib.Seq.{ext-getD, getD-at, take-at, drop-at, getD-set-same, getD-set-other}
 use borrow.Author.Tests.{eqb-true, eq-eqb}
 use Rattle.theory.specs.Lists.{sum, firstFrom, cat, tab, any, over, between, has, same, padded}
-use Rattle.theory.proofs.Tests.{both-ways, eq-or-ne, or-true, or-left, or-right, and-left, and-right}
+use Rattle.theory.proofs.Tests.{either, lt-or-le, both-ways, eq-or-ne, or-true, or-left, or-right, and-left, and-right}
 
 -- ---- first
 
@@ -36,6 +36,32 @@ first-is p (suc n) i R a b h t =
     let u = h i (omega arith) l in
     rw u (first-is p n (suc i) R l (omega arith) (λ j c d. h j (omega arith) d) t))
     (eq-or-lt-of-le a)
+
+pub first-ge : (p : ℕ → Bool) (i n : ℕ) → i ≤ firstFrom p i n
+unfolding firstFrom
+first-ge p i zero = le-refl i
+first-ge p i (suc n) = ⊎-elim (λ (e : p i ≡ true). rw e (le-refl i)) (λ (e : p i ≡ false). rw e (omega (arith, first-ge p (suc i) n))) (either (p i))
+
+-- a second test that says the same up to there is passed first at the same number
+pub first-same : (p u : ℕ → Bool) (i n : ℕ) → ((j : ℕ) → j ≤ firstFrom p i n → u j ≡ p j) → firstFrom u i n ≡ firstFrom p i n
+unfolding firstFrom
+first-same p u i zero h = refl
+first-same p u i (suc n) h =
+    ⊎-elim (λ (e : p i ≡ true). let f : u i ≡ true = h i (rw e (le-refl i)) ∙ e in rw (e, f))
+    (λ (e : p i ≡ false).
+    let f : u i ≡ false = h i (rw e (omega (arith, first-ge p (suc i) n))) ∙ e in
+    rw (e, f) (first-same p u (suc i) n (λ j l. h j (rw e l)))) (either (p i))
+
+-- and one that says the same before R, which is not after that number, is not passed before R
+pub first-later : (p u : ℕ → Bool) (i n R : ℕ) → ((j : ℕ) → j < R → u j ≡ p j) → R ≤ firstFrom p i n → R ≤ firstFrom u i n
+unfolding firstFrom
+first-later p u i zero R h l = l
+first-later p u i (suc n) R h l =
+    ⊎-elim (λ (e : p i ≡ true). let r : R ≤ i = rw e at l in omega (arith, first-ge u i (suc n)))
+    (λ (e : p i ≡ false). let r : R ≤ firstFrom p (suc i) n = rw e at l in
+    ⊎-elim (λ (i<R : i < R). let f : u i ≡ false = h i i<R ∙ e in rw f (first-later p u (suc i) n R h r))
+    (λ (R≤i : R ≤ i). omega (arith, first-ge u i (suc n))) (lt-or-le i R))
+    (either (p i))
 
 -- ---- cat
 

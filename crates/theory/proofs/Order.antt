@@ -1,6 +1,6 @@
 -- The order of `ranked`: each kept entry once, by key and then by number; and where K of the kept have keys of R or less, their first K are told by those alone. Assumes nothing.
 use mathlib.Core.Path.{_≡_, refl, sym, ap, ap₂, _∙_, subst}
-use mathlib.Core.Logic.{_⊎_, inl, inr, ⊎-elim}
+use mathlib.Core.Logic.{inl, inr, ⊎-elim}
 use mathlib.Core.Bool.{Bool, true, false, _&&_, and-true, and-false}
 use mathlib.Core.List.{List, [], _∷_, _++_}
 use Prim.Native.Nat.{ℕ, zero, suc, _+_, _-_, _≤_, _<_}
@@ -16,18 +16,9 @@ use Rattle.theory.proofs.Sums.{sum-cong, sum-zero}
 use Rattle.theory.proofs.Lists.{cat-cong, cat-split}
 use Rattle.theory.proofs.Counting.{only, upto-cong}
 use Rattle.theory.proofs.Times.{times, times-cat, times-upto, once}
+pub use Rattle.theory.specs.Order.{All, Sorted, Before}
 
 -- ---- lists in order
-
-module _ {A : Type 0} where
-  -- every element has the property; each element stands in the relation to every later one
-  abbrev pub All : (A → Type 0) → List A → Type 0
-  All P [] = Unit {0}
-  All P (x ∷ l) = P x × All P l
-
-  abbrev pub Sorted : (A → A → Type 0) → List A → Type 0
-  Sorted R [] = Unit {0}
-  Sorted R (x ∷ l) = All (R x) l × Sorted R l
 
 module _ {A : Type 0} where
   pub all-append : (P : A → Type 0) (l m : List A) → All P l → All P m → All P (l ++ m)
@@ -93,10 +84,6 @@ pub upto-ascends : (p : ℕ → Bool) (n : ℕ) → Sorted _<_ (upto p n)
 upto-ascends p n = cat-sorted _<_ (λ x. x) (λ x y h. h) (λ i. only (p i) i) (λ i. only-all _ (p i) i (λ _. refl)) (λ i. only-sorted _<_ (p i) i) n
 
 -- ---- ranked
-
--- smaller key first, then smaller number
-abbrev pub Before : (ℕ → ℕ) → ℕ → ℕ → Type 0
-Before key i j = (key i < key j) ⊎ ((key i ≡ key j) × (i < j))
 
 -- the test holds, and k is one of the numbers below q
 sum-eqb : (b : Bool) (k q : ℕ) → sum (λ d. oneIf (eqb k d && b)) q ≡ oneIf (ltb k q && b)

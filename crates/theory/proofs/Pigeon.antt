@@ -7,7 +7,7 @@ use Rattle.theory.specs.Lists.{sum}
 use Rattle.theory.proofs.Tests.{lt-or-le}
 
 -- table z is open to distance d after step r * m + a: the tables up to a to r, the others to below r
-pub Open : (r a z d : ℕ) → Type 0
+unfoldable pub Open : (r a z d : ℕ) → Type 0
 Open r a z d = ((z ≤ a) × (d ≤ r)) ⊎ ((a < z) × (d < r))
 
 -- or it is not, and its distance is the larger

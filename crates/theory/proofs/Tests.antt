@@ -7,6 +7,7 @@ use native.Mathlib.Nat.{eq-or-lt-of-le}
 use native.Mathlib.Omega.{arith}
 use lib.Dec.{T, eqb, ltb, leb}
 use borrow.Author.Tests.{eqb-true, eqb-false, ltb-true, ltb-false, leb-true, eq-eqb, ne-eqb, lt-ltb, le-ltb, le-leb}
+pub use Rattle.theory.specs.Order.{oneIf}
 
 -- ---- cases
 
@@ -76,11 +77,7 @@ pub leb-is-ltb : (a R : ℕ) → leb a R ≡ ltb a (suc R)
 leb-is-ltb a R =
     same-test (leb a R) (ltb a (suc R)) (λ e. lt-ltb a (suc R) (omega (arith, leb-true a R e))) (λ e. le-leb a R (omega (arith, ltb-true a (suc R) e)))
 
--- ---- a test as a number: 1 where it holds
-
-abbrev pub oneIf : Bool → ℕ
-oneIf true = 1
-oneIf false = 0
+-- ---- a test as a number
 
 pub oneIf-le : (b : Bool) → oneIf b ≤ 1
 oneIf-le true = omega arith

@@ -12,11 +12,7 @@ use Rattle.theory.specs.Lists.{sum, cat, upto, any}
 use Rattle.theory.proofs.Tests.{lt-or-le, oneIf}
 use Rattle.theory.proofs.Sums.{sum-cong, sum-zero, sum-at}
 use Rattle.theory.proofs.Counting.{only}
-
-module _ {A : Type 0} where
-  unfoldable pub times : (A → Bool) → List A → ℕ
-  times t [] = 0
-  times t (x ∷ l) = oneIf (t x) + times t l
+unfoldable pub use Rattle.theory.specs.Order.{times}
 
 module _ {A : Type 0} where
   pub times-append : (t : A → Bool) (l k : List A) → times t (l ++ k) ≡ times t l + times t k
