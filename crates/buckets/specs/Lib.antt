@@ -1,0 +1,2 @@
+-- What the functions on one table are handed.
+pub mod Handed

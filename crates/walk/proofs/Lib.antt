@@ -1,0 +1,5 @@
+-- Laws behind the walk's functions.
+pub mod Buckets
+pub mod Testing
+pub mod Opening
+pub mod Stepping

@@ -1,0 +1,154 @@
+-- Buckets are opened in order, up to the first bad one. Assumes nothing.
+use mathlib.Core.Path.{_≡_, refl, sym, ap, _∙_}
+use mathlib.Core.Bool.{Bool, true, false, _||_, cond, or-false, or-assoc}
+use mathlib.Core.List.{List, [], _∷_, _++_, map, map-append}
+use Prim.Native.Nat.{ℕ, suc, _+_, _≤_}
+use native.Mathlib.Nat.{add-zero}
+use native.Mathlib.Decide.{le-ind}
+use native.Mathlib.Omega.{arith}
+use lib.Bits.{bitXor}
+use lib.Count.{ones}
+use lib.Dec.{eqb}
+use lib.ListN.{length, length-append, length-map}
+use Rattle.theory.specs.Lists.{cat, any, has, upto}
+use Rattle.theory.proofs.Lists.{any-append, any-one, any-none, any-map}
+use Rattle.theory.proofs.Counting.{upto-suc, count-le}
+use Rattle.scope.specs.declared.Refusal.{Refusal}
+use Rattle.scope.specs.declared.Refusal.the-variants.{BadBucket}
+use Rattle.scope.specs.Tables.{Index, n, bucket, bad}
+use Rattle.scope.specs.Walk.{Question, distanceOf}
+use Rattle.scope.specs.Refusals.{Rows, met, unless, markWords}
+use Rattle.scope.proofs.Rows.{unless-append, unless-none}
+use Rattle.codes.specs.Marks.{isMarked}
+use Rattle.walk.specs.declared.Met.the-variants.{Clear, Refused}
+use Rattle.walk.specs.declared.Walk.{Walk}
+use Rattle.walk.specs.Steps.{lists, around, metIn, Counted, Tests, Opening}
+
+-- ---- the first bad bucket
+
+pub not-both : {A : Type 0} {f : Refusal} → Refused f ≡ Clear → A
+not-both e = absurd (let y : _≡_ {A = ℕ} 0 1 = cc in omega arith)
+
+-- rows that leave a walk clear pass every answer
+pub all-clear : (rows : Rows) → unless rows Refused Clear ≡ Clear → any (λ (row : Bool × Refusal). row .0) rows ≡ false
+unfolding unless any
+all-clear [] h = refl
+all-clear (row ∷ rows) h = go (all-clear rows) (row .0) h
+  where
+    go : (unless rows Refused Clear ≡ Clear → any (λ (r : Bool × Refusal). r .0) rows ≡ false)
+        → (t : Bool) → cond t (Refused (row .1)) (unless rows Refused Clear) ≡ Clear → (t || any (λ (r : Bool × Refusal). r .0) rows) ≡ false
+    go ih true e = not-both e
+    go ih false e = ih e
+
+-- rows that refuse a walk refuse every answer alike
+pub one-refuses : {A : Type 0} (rows : Rows) (f : Refusal) (refused : Refusal → A) (answer : A) → unless rows Refused Clear ≡ Refused f
+    → unless rows refused answer ≡ refused f
+unfolding unless
+one-refuses [] f refused answer h = not-both (sym h)
+one-refuses (row ∷ rows) f refused answer h = go (one-refuses rows f refused answer) (row .0) h
+  where
+    go : (unless rows Refused Clear ≡ Refused f → unless rows refused answer ≡ refused f)
+        → (t : Bool) → cond t (Refused (row .1)) (unless rows Refused Clear) ≡ Refused f → cond t (refused (row .1)) (unless rows refused answer) ≡ refused f
+    go ih true e = ap refused (cc)
+    go ih false e = ih e
+
+module _ (x : Index) where
+  pub met-none : metIn x [] ≡ Clear
+  unfolding metIn unless
+  met-none = refl
+
+  pub met-one : (z v : ℕ) → metIn x ((z, v) ∷ []) ≡ cond (bad x z v) (Refused (BadBucket z v)) Clear
+  unfolding metIn unless
+  met-one z v = refl
+
+  met-append : (l k : List (ℕ × ℕ)) → metIn x (l ++ k) ≡ unless (met x l) Refused (metIn x k)
+  unfolding metIn
+  met-append l k = ap (λ (rows : Rows). unless rows Refused Clear) (map-append _ l k) ∙ unless-append (met x l) (met x k) Refused Clear
+
+  -- after buckets of which none is bad, the rest decide; after a bad one, nothing does
+  pub met-past : (l k : List (ℕ × ℕ)) → metIn x l ≡ Clear → metIn x (l ++ k) ≡ metIn x k
+  unfolding metIn
+  met-past l k h = met-append l k ∙ unless-none (met x l) Refused (metIn x k) (all-clear (met x l) h)
+
+  pub met-stays : (l k : List (ℕ × ℕ)) (f : Refusal) → metIn x l ≡ Refused f → metIn x (l ++ k) ≡ Refused f
+  unfolding metIn
+  met-stays l k f h = met-append l k ∙ one-refuses (met x l) f Refused (metIn x k) h
+
+  -- of clear buckets none is bad
+  pub none-bad : (l : List (ℕ × ℕ)) → metIn x l ≡ Clear → any (λ b. bad x (b .0) (b .1)) l ≡ false
+  unfolding metIn
+  none-bad l h = sym (any-map (λ (row : Bool × Refusal). row .0) _ l) ∙ all-clear (met x l) h
+
+-- ---- buckets, one after the other
+
+module _ (ask : Question) (w : Walk) (marks : List ℕ) where
+  pub opening-none : (tally : List ℕ) → w .met ≡ Clear → Counted (distanceOf ask) (markWords (n (ask .index))) w marks tally → Opening ask [] w w marks marks tally
+  opening-none tally c h =
+      record {
+        met = c ∙ sym (met-none (ask .index));
+        clear = λ _. record { at = refl; opened = sym (add-zero _); marked = λ i. rw any-none (sym (or-false (isMarked marks i))); counted = h };
+      }
+
+  -- one bucket: it is bad, or its entries are tested
+  pub opening-refused : (z v : ℕ) (r : Walk) (marks′ tally′ : List ℕ) → bad (ask .index) z v ≡ true → r .met ≡ Refused (BadBucket z v)
+      → Opening ask ((z, v) ∷ []) w r marks marks′ tally′
+  opening-refused z v r marks′ tally′ b e = record { met = e ∙ sym (rw (met-one, b)); clear = λ c. not-both (sym e ∙ c) }
+
+  pub opening-one : (z v : ℕ) (u r : Walk) (marks′ tally′ : List ℕ) → bad (ask .index) z v ≡ false → u .at ≡ w .at → u .opened .0 ≡ w .opened .0 + 1 → u .met ≡ Clear
+      → Tests (distanceOf ask) (markWords (n (ask .index))) (λ i. has i (bucket (ask .index) z v)) u r marks marks′ tally′ → Opening ask ((z, v) ∷ []) w r marks marks′ tally′
+  opening-one z v u r marks′ tally′ b at opened c h =
+      record {
+        met = h .met ∙ c ∙ sym (rw (met-one, b));
+        clear = λ _. record { at = h .at ∙ at; opened = rw (h .opened) opened; marked = λ i. rw any-one (h .marked i); counted = h .counted };
+      }
+
+  -- the buckets l, and then k
+  pub opening-more : (l k : List (ℕ × ℕ)) (r o : Walk) (marks′ tally′ marks″ tally″ : List ℕ) → Opening ask l w r marks marks′ tally′ → r .met ≡ Clear
+      → Opening ask k r o marks′ marks″ tally″ → Opening ask (l ++ k) w o marks marks″ tally″
+  opening-more l k r o marks′ tally′ marks″ tally″ h c g =
+      record {
+        met = g .met ∙ sym (met-past (ask .index) l k (sym (h .met) ∙ c));
+        clear = λ e.
+            let a = h .clear c in
+            let b = g .clear e in
+            record {
+              at = b .at ∙ a .at;
+              opened = rw length-append (let i = a .opened in let j = b .opened in omega arith);
+              marked = λ i. b .marked i ∙ rw (a .marked i, any-append) (or-assoc (isMarked marks i) (lists (ask .index) l i) (lists (ask .index) k i));
+              counted = b .counted;
+            };
+      }
+
+  -- what stands after a bad bucket is not opened
+  pub opening-bad : (l k : List (ℕ × ℕ)) (r : Walk) (marks′ tally′ : List ℕ) (f : Refusal) → Opening ask l w r marks marks′ tally′ → r .met ≡ Refused f
+      → Opening ask (l ++ k) w r marks marks′ tally′
+  opening-bad l k r marks′ tally′ f h c =
+      record { met = c ∙ sym (met-stays (ask .index) l k f (sym (h .met) ∙ c)); clear = λ e. not-both (sym c ∙ e) }
+
+-- ---- the buckets of one step, by masks
+
+module _ (z r sub : ℕ) where
+  pub around-none : around z r sub 0 ≡ []
+  unfolding cat
+  around-none = refl
+
+  pub around-suc : (k : ℕ) → around z r sub (suc k) ≡ around z r sub k ++ cond (eqb (ones k) r) ((z, bitXor sub k) ∷ []) []
+  around-suc k =
+      ap (map at) (upto-suc (λ e. eqb (ones e) r) k) ∙ map-append at (upto (λ e. eqb (ones e) r) k) _
+      ∙ ap (λ (l : List (ℕ × ℕ)). around z r sub k ++ l) (go (eqb (ones k) r))
+    where
+      at : ℕ → ℕ × ℕ
+      at e = (z, bitXor sub e)
+
+      go : (b : Bool) → map at (cond b (k ∷ []) []) ≡ cond b (at k ∷ []) []
+      go true = refl
+      go false = refl
+
+  pub around-few : (k : ℕ) → length (around z r sub k) ≤ k
+  around-few k = rw length-map (count-le (λ e. eqb (ones e) r) k)
+
+  -- a bad bucket among the first k masks is the first bad of them all
+  pub around-bad : (ask : Question) (w o : Walk) (marks marks′ tally′ : List ℕ) (f : Refusal) (k m : ℕ) → k ≤ m
+      → Opening ask (around z r sub k) w o marks marks′ tally′ → o .met ≡ Refused f → Opening ask (around z r sub m) w o marks marks′ tally′
+  around-bad ask w o marks marks′ tally′ f k m l h e =
+      le-ind (λ (j : ℕ). Opening ask (around z r sub j) w o marks marks′ tally′) h (λ j _ g. rw around-suc (opening-bad ask w marks _ _ o marks′ tally′ f g e)) m l

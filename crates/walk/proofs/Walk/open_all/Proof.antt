@@ -1,0 +1,145 @@
+-- `walk::Walk::open_all` meets its contract: the loop opens the buckets of the masks that it passes. Assumes nothing.
+use mathlib.Core.Path.{_≡_, refl}
+use mathlib.Core.Bool.{cond}
+use mathlib.Core.List.{List, [], _∷_}
+use Prim.Native.Nat.{ℕ, _+_, _-_, _≤_}
+use native.Mathlib.Numerals.{add-one}
+use native.Mathlib.Omega.{arith}
+use lib.Bits.{bitXor}
+use lib.Count.{ones}
+use lib.Dec.{eqb}
+use lib.ListN.{length}
+use Rattle.codes.proofs.Codes.{substring-lt}
+use Rattle.scope.specs.Shape.{size}
+use Rattle.scope.specs.Walk.{Question}
+use Rattle.scope.proofs.Shapes.{facts, few-buckets}
+use Rattle.walk.specs.declared.Met.the-variants.{Clear}
+use Rattle.walk.specs.declared.Walk.{Walk}
+use Rattle.walk.specs.Steps.{asks, around, Opening}
+use Rattle.walk.proofs.Opening as opening
+use borrow.Author.Needs.{needs}
+use Rattle.walk.proofs.Walk.open_all.Statement.{statement}
+use Rattle.walk.proofs.Walk.open_all.Tie as tie
+
+-- masks 0 to k - 1 are through
+record Through (ask : Question) (z r sub masks : ℕ) (w o : Walk) (marks marks′ tally tally′ : List ℕ) (k : ℕ) : Type 0 where
+  upto : k ≤ masks
+  clear : o .met ≡ Clear
+  opened : Opening ask (around z r sub k) w o marks marks′ tally′
+  same-marks : length marks′ ≡ length marks
+  same-tally : length tally′ ≡ length tally
+
+next : (ask : Question) (z r sub masks : ℕ) (w o u : Walk) (marks marks′ tally tally′ marks″ tally″ : List ℕ) (k : ℕ) → Through ask z r sub masks w o marks marks′ tally tally′ k
+    → Opening ask (cond (eqb (ones k) r) ((z, bitXor sub k) ∷ []) []) o u marks′ marks″ tally″ → Opening ask (around z r sub (k + 1)) w u marks marks″ tally″
+next ask z r sub masks w o u marks marks′ tally tally′ marks″ tally″ k h g =
+    rw (add-one k, opening.around-suc z r sub k) (opening.opening-more ask w marks _ _ o u marks′ tally′ marks″ tally″ (h .opened) (h .clear) g)
+
+few : (ask : Question) (z r sub masks : ℕ) (w o : Walk) (marks marks′ tally tally′ : List ℕ) (k : ℕ) → Through ask z r sub masks w o marks marks′ tally tally′ k
+    → o .opened .0 ≤ w .opened .0 + k
+few ask z r sub masks w o marks marks′ tally tally′ k h = let e = h .opened .clear (h .clear) .opened in omega (arith, opening.around-few z r sub k)
+
+abbrev Inv-loop : tie.InvT-loop
+Inv-loop shape stars codes starts ids query z r marks₀ tally₀ sub masks w₀ mask₀ marks tally w mask =
+    Through (asks shape stars codes starts ids query) z r sub masks w₀ w marks₀ marks tally₀ tally mask
+
+abbrev μ-loop : tie.MeasureT-loop
+μ-loop shape stars codes starts ids query z r marks₀ tally₀ sub masks w₀ mask₀ marks tally w mask = masks - mask
+
+abbrev Ask : tie.Start Inv-loop μ-loop → Question
+Ask c = asks (c .args .shape) (c .args .stars .now) (c .args .codes .now) (c .args .starts .now) (c .args .ids .now) (c .args .query .now)
+
+query-substring-requires : tie.Need-query-substring-requires Inv-loop μ-loop
+query-substring-requires c κs = (c .before .before .before .before .before .before .before .pre .0 .lent .known, c .before .before .before .before .before .before .before .pre .1 .0 .0, c .before .before .before .before .before .before .before .pre .0 .query)
+
+buckets-requires : tie.Need-buckets-requires Inv-loop μ-loop
+buckets-requires c κs = search needs
+
+loop-holds : tie.Need-loop-holds Inv-loop μ-loop
+loop-holds c =
+    record {
+      upto = omega arith;
+      clear = c .before .before .before .before .before .before .before .before .before .pre .1 .0 .1;
+      opened = rw opening.around-none (opening.opening-none (Ask (c .before .before .before .before .before .before .before .before .before)) _ _ _ (c .before .before .before .before .before .before .before .before .before .pre .1 .0 .1) (c .before .before .before .before .before .before .before .before .before .pre .1 .1));
+      same-marks = refl;
+      same-tally = refl;
+    }
+
+open-mask-requires : tie.Need-open-mask-requires Inv-loop μ-loop
+open-mask-requires c κs =
+    let i = c .before .before .before .loop .inv in
+    let b = c .before .before .before .before .before .before .before .before .before .before .before .before .before .pre .1 .0 .2 in
+    let e = c .before .before .before .before .buckets .ensures in (
+      c .before .before .before .before .before .before .before .before .before .before .before .before .before .pre .0,
+      (
+        (c .before .before .before .before .before .before .before .before .before .before .before .before .before .pre .1 .0 .0, rw (c .before .before .before .before .before .query-substring .ensures) (substring-lt _ _ _), omega arith, i .clear, omega (arith, few _ _ _ _ _ _ _ _ _ _ _ _ i, few-buckets _ (facts _ (c .before .before .before .before .before .before .before .before .before .before .before .before .before .pre .0 .lent .known)) (c .before .before .before .before .before .before .before .before .before .before .before .before .before .args .z))),
+        i .opened .clear (i .clear) .counted,
+      ),
+    )
+
+enum-told : tie.Need-enum-told Inv-loop μ-loop
+enum-told c = search needs
+
+same-length : tie.Need-same-length Inv-loop μ-loop
+same-length c = search needs
+
+same-length-2 : tie.Need-same-length-2 Inv-loop μ-loop
+same-length-2 c = search needs
+
+returns : tie.Need-returns Inv-loop μ-loop
+returns c =
+    rw (← c .before .before .before .before .before .before .before .before .before .before .before .before .query-substring .ensures)
+    (opening.around-bad (c .before .before .before .before .before .before .before .before .before .before .before .before .before .before .before .before .before .before .before .before .args .z) (c .before .before .before .before .before .before .before .before .before .before .before .before .before .before .before .before .before .before .before .before .args .r) (c .before .before .before .before .before .before .before .before .before .before .before .before .query-substring .result) (Ask (c .before .before .before .before .before .before .before .before .before .before .before .before .before .before .before .before .before .before .before .before)) _ _ _ _ _ _ _ _ (let e = c .before .before .before .before .before .before .before .before .before .before .before .buckets .ensures in omega arith) (next _ _ _ _ _ _ _ _ _ _ _ _ _ _ _ (c .before .before .before .before .before .before .before .before .before .before .loop .inv) (c .before .before .before .before .before .before .open-mask .ensures)) (c .enum-told .given .1))
+
+enum-told-2 : tie.Need-enum-told-2 Inv-loop μ-loop
+enum-told-2 c = search needs
+
+add-mask : tie.Need-add-mask Inv-loop μ-loop
+add-mask c = search needs
+
+loop-less : tie.Need-loop-less Inv-loop μ-loop
+loop-less c = search needs
+
+loop-again : tie.Need-loop-again Inv-loop μ-loop
+loop-again c =
+    let i = c .before .before .before .before .before .before .before .before .before .before .loop .inv in
+    record {
+      upto = omega arith;
+      clear = c .enum-told2 .given .1;
+      opened = next _ _ _ _ _ _ _ _ _ _ _ _ _ _ _ i (c .before .before .before .before .before .before .open-mask .ensures);
+      same-marks = search needs;
+      same-tally = search needs;
+    }
+
+same-length-3 : tie.Need-same-length-3 Inv-loop μ-loop
+same-length-3 c = c .before .loop .inv .same-marks
+
+same-length-4 : tie.Need-same-length-4 Inv-loop μ-loop
+same-length-4 c = c .before .loop .inv .same-tally
+
+returns-2 : tie.Need-returns-2 Inv-loop μ-loop
+returns-2 c =
+    let i = c .before .loop .inv in
+    let all : c .before .loop .mask ≡ size (c .before .before .before .before .before .before .before .before .before .before .before .args .shape) (c .before .before .before .before .before .before .before .before .before .before .before .args .z) = let e = c .before .before .buckets .ensures in let l = i .upto in omega arith in
+    rw (← c .before .before .before .query-substring .ensures, ← all) (i .opened)
+
+pub open-all-spec : {M : Type 1} → statement M
+open-all-spec =
+    tie.close
+    (tie.spec
+    Inv-loop
+    μ-loop
+    query-substring-requires
+    buckets-requires
+    loop-holds
+    open-mask-requires
+    enum-told
+    same-length
+    same-length-2
+    returns
+    enum-told-2
+    add-mask
+    loop-less
+    loop-again
+    same-length-3
+    same-length-4
+    returns-2)

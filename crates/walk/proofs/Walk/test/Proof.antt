@@ -1,0 +1,105 @@
+-- `walk::Walk::test` meets its contract. Assumes nothing.
+use mathlib.Core.Path.{_≡_, refl, sym, _∙_}
+use Prim.Native.Nat.{ℕ, _*_, _<_}
+use native.Mathlib.Omega.{arith}
+use lib.Dec.{ltb}
+use Rattle.codes.proofs.Codes.{distance-le}
+use Rattle.scope.specs.Codes.{distance, codeOf}
+use Rattle.walk.specs.Steps.{distanceIn}
+use Rattle.walk.proofs.Testing
+use borrow.Author.Needs.{needs}
+use Rattle.walk.proofs.Walk.test.Statement.{statement}
+use Rattle.walk.proofs.Walk.test.Tie as tie
+
+abbrev D : tie.Start → ℕ → ℕ
+D c = distanceIn (c .args .shape) (c .args .codes .now) (c .args .query .now)
+
+close : (c : tie.Start) → D c (c .args .i) < 257
+close c = let w = c .pre .0 .0 in omega (arith, distance-le (64 * c .args .shape .w) (codeOf (c .args .shape .w) (c .args .codes .now) (c .args .i)) (c .args .query .now))
+
+few : (c : tie.Start) (d : ℕ) → d ≡ D c (c .args .i) → Testing.Few (D c) _ _ _ _ (c .pre .1 .1) d
+few c d e = Testing.few (D c) _ _ _ _ (c .pre .1 .1) (c .pre .1 .0 .1) d (omega (arith, close c))
+
+marked-requires : tie.Need-marked-requires
+marked-requires c κs = search needs
+
+same-length : tie.Need-same-length
+same-length c = search needs
+
+returns : tie.Need-returns
+returns c =
+    record {
+      at = refl;
+      opened = refl;
+      met = refl;
+      marked = Testing.marked-before _ _ (sym (c .before .marked .ensures) ∙ c .if1 .taken);
+      counted = c .before .before .before .before .before .before .before .pre .1 .1;
+    }
+
+mark-requires : tie.Need-mark-requires
+mark-requires c κs = search needs
+
+cast-distance : tie.Need-cast-distance
+cast-distance c = search needs
+
+distance-requires : tie.Need-distance-requires
+distance-requires c κs = search needs
+
+cast-place : tie.Need-cast-place
+cast-place c = search needs
+
+mul-tally : tie.Need-mul-tally
+mul-tally c = search needs
+
+slice-read-tally : tie.Need-slice-read-tally
+slice-read-tally c = few (c .before .before .before .before .before .before .before .before .before .before .before .before .before .before) _ (c .before .distance .ensures) .in-tally
+
+add-tally : tie.Need-add-tally
+add-tally c = omega (arith, few (c .before .before .before .before .before .before .before .before .before .before .before .before .before .before) _ (c .before .distance .ensures) .at-distance)
+
+mul-tally-2 : tie.Need-mul-tally-2
+mul-tally-2 c = search needs
+
+slice-write-tally : tie.Need-slice-write-tally
+slice-write-tally c = few (c .before .before .before .before .before .before .before .before .before .before .before .before .before .before) _ (c .before .distance .ensures) .in-tally
+
+add-t21 : tie.Need-add-t21
+add-t21 c = omega (arith, few (c .before .before .before .before .before .before .before .before .before .before .before .before .before .before .before .before .before) _ (c .before .before .before .before .distance .ensures) .tested)
+
+cast-t22 : tie.Need-cast-t22
+cast-t22 c = search needs
+
+add-t27 : tie.Need-add-t27
+add-t27 c = omega (arith, few (c .before .before .before .before .before .before .before .before .before .before .before .before .before .before .before .before .before .before .before) _ (c .before .before .before .before .before .before .distance .ensures) .near (ltb (c .before .before .before .before .before .before .distance .result) (c .before .before .before .before .before .before .before .before .before .before .before .before .before .before .before .before .before .before .before .args .self .at)))
+
+same-length-2 : tie.Need-same-length-2
+same-length-2 c = search needs
+
+same-length-3 : tie.Need-same-length-3
+same-length-3 c = search needs
+
+returns-2 : tie.Need-returns-2
+returns-2 c = Testing.tests-new (D (c .before .before .before .before .before .before .before .before .before .before .before .before .before .before .before .before .before .before .before)) _ _ _ _ (c .before .before .before .before .before .before .before .before .before .before .before .before .before .before .before .before .before .before .before .pre .1 .1) _ _ _ (c .before .before .before .before .before .before .before .before .before .before .before .before .before .before .before .before .before .before .before .pre .1 .0 .0) (sym (c .before .before .before .before .before .before .before .before .before .before .before .before .before .marked .ensures) ∙ c .before .before .before .before .before .before .before .before .before .before .before .before .if1 .left) (close (c .before .before .before .before .before .before .before .before .before .before .before .before .before .before .before .before .before .before .before)) (c .before .before .before .before .before .before .distance .ensures) (c .before .before .before .before .before .before .before .before .before .before .mark .ensures)
+
+pub test-spec : {M : Type 1} → statement M
+test-spec =
+    tie.close
+    (tie.spec
+    marked-requires
+    same-length
+    returns
+    mark-requires
+    cast-distance
+    distance-requires
+    cast-place
+    mul-tally
+    slice-read-tally
+    add-tally
+    mul-tally-2
+    slice-write-tally
+    add-t21
+    cast-t22
+    add-t27
+    same-length-2
+    same-length-3
+    returns-2)

@@ -1,0 +1,119 @@
+-- `walk::bad_bucket` meets its contract: the loop passes the places whose ids are not bad. Assumes nothing.
+use mathlib.Core.Path.{_≡_, sym, _∙_}
+use mathlib.Core.Bool.{true, false}
+use Prim.Native.Nat.{_+_, _-_, _*_, _≤_}
+use native.Mathlib.Omega.{arith}
+use lib.ListN.{length}
+use Rattle.scope.specs.Tables.{Index, index, n, start, idAt, substringOf, badId}
+use Rattle.scope.proofs.Shapes.{facts, few-buckets}
+use Rattle.walk.proofs.Buckets
+use borrow.Author.Needs.{needs}
+use Rattle.walk.proofs.bad_bucket.Statement.{statement}
+use Rattle.walk.proofs.bad_bucket.Tie as tie
+
+abbrev Inv-loop : tie.InvT-loop
+Inv-loop shape stars codes starts ids z v n first end before least₀ p₀ least p = Buckets.Passed (index shape stars codes starts ids) z v p least
+
+abbrev μ-loop : tie.MeasureT-loop
+μ-loop shape stars codes starts ids z v n first end before least₀ p₀ least p = end - p
+
+abbrev X : tie.Start Inv-loop μ-loop → Index
+X c = index (c .args .shape) (c .args .stars .now) (c .args .codes .now) (c .args .starts .now) (c .args .ids .now)
+
+room : (c : tie.Start Inv-loop μ-loop) → c .args .z * n (X c) + n (X c) ≤ length (c .args .ids .now)
+room c = Buckets.in-ids (X c) (c .pre .0) (c .args .z) (c .pre .1 .0)
+
+start-requires : tie.Need-start-requires Inv-loop μ-loop
+start-requires c κs = ((c .before .before .before .before .pre .0 .known, c .before .before .before .before .pre .1 .0, omega arith, c .before .before .before .before .pre .0 .starts))
+
+add-start : tie.Need-add-start Inv-loop μ-loop
+add-start c = omega (arith, few-buckets _ (facts _ (c .before .before .before .before .before .pre .0 .known)) (c .before .before .before .before .before .args .z))
+
+start-requires-2 : tie.Need-start-requires-2 Inv-loop μ-loop
+start-requires-2 c κs = ((c .before .before .before .before .before .pre .0 .known, c .before .before .before .before .before .pre .1 .0, omega arith, c .before .before .before .before .before .pre .0 .starts))
+
+returns : tie.Need-returns Inv-loop μ-loop
+unfolding start
+returns c = sym (Buckets.bad-order (X (c .before .before .before .before .before .before .before)) (c .before .before .before .before .before .before .before .args .z) (c .before .before .before .before .before .before .before .args .v) (let a = c .before .before .start .ensures in let e = c .before .start2 .ensures in omega arith))
+
+returns-2 : tie.Need-returns-2 Inv-loop μ-loop
+unfolding start
+returns-2 c = sym (Buckets.bad-over (X (c .before .before .before .before .before .before .before .before)) (c .before .before .before .before .before .before .before .before .args .z) (c .before .before .before .before .before .before .before .before .args .v) (let a = c .before .before .before .start .ensures in let e = c .before .before .start2 .ensures in omega arith) (let e = c .before .before .start2 .ensures in omega arith))
+
+mul-before : tie.Need-mul-before Inv-loop μ-loop
+mul-before c = omega (arith, room (c .before .before .before .before .before .before .before .before))
+
+loop-holds : tie.Need-loop-holds Inv-loop μ-loop
+unfolding start
+loop-holds c = rw (c .before .before .before .start .ensures) (Buckets.passed-none (X (c .before .before .before .before .before .before .before .before)) (c .before .before .before .before .before .before .before .before .args .z) (c .before .before .before .before .before .before .before .before .args .v) (let a = c .before .before .before .start .ensures in let e = c .before .before .start2 .ensures in omega arith))
+
+add-i : tie.Need-add-i Inv-loop μ-loop
+add-i c = omega (arith, room (c .before .before .before .before .before .before .before .before .before .before))
+
+mul-i : tie.Need-mul-i Inv-loop μ-loop
+mul-i c = omega (arith, room (c .before .before .before .before .before .before .before .before .before .before))
+
+shared-slice-read-i : tie.Need-shared-slice-read-i Inv-loop μ-loop
+shared-slice-read-i c = omega (arith, room (c .before .before .before .before .before .before .before .before .before .before .before))
+
+cast-i : tie.Need-cast-i Inv-loop μ-loop
+cast-i c = omega (arith, c .shared-slice-known5 .given (c .before .before .before .before .before .before .before .before .before .before .before .args .z * length (c .before .before .before .before .before .before .before .before .before .before .before .args .stars .now) + c .before .before .loop .p))
+
+bad-id-requires : tie.Need-bad-id-requires Inv-loop μ-loop
+bad-id-requires c κs = (c .before .before .before .before .before .before .before .before .before .before .before .pre .0 .known, c .before .before .before .before .before .before .before .before .before .before .before .pre .1 .0, c .before .before .before .before .before .before .before .before .before .before .before .pre .0 .codes)
+
+returns-3 : tie.Need-returns-3 Inv-loop μ-loop
+unfolding start idAt substringOf
+returns-3 c =
+    let x = X (c .before .before .before .before .before .before .before .before .before .before .before .before .before) in
+    let i = c .before .before .before .before .loop .inv in
+    let test : badId x (c .before .before .before .before .before .before .before .before .before .before .before .before .before .args .z) (c .before .before .before .before .before .before .before .before .before .before .before .before .before .args .v) (c .before .before .before .before .loop .p) ≡ true =
+    sym (Buckets.bad-id-is x (c .before .before .before .before .before .before .before .before .before .before .before .before .before .args .z) (c .before .before .before .before .before .before .before .before .before .before .before .before .before .args .v) (c .before .before .before .before .loop .p)) ∙ rw (← i .low-is) (sym (c .before .bad-id .ensures) ∙ c .if3 .taken) in
+    sym (Buckets.bad-here x _ _ _ _ i (let e = c .before .before .before .before .before .before .before .start2 .ensures in omega arith) test)
+
+add-least : tie.Need-add-least Inv-loop μ-loop
+add-least c = omega (arith, c .before .before .shared-slice-known5 .given (c .before .before .before .before .before .before .before .before .before .before .before .before .before .args .z * length (c .before .before .before .before .before .before .before .before .before .before .before .before .before .args .stars .now) + c .before .before .before .before .loop .p))
+
+add-p : tie.Need-add-p Inv-loop μ-loop
+add-p c = search needs
+
+loop-less : tie.Need-loop-less Inv-loop μ-loop
+loop-less c = search needs
+
+loop-again : tie.Need-loop-again Inv-loop μ-loop
+unfolding start idAt substringOf
+loop-again c =
+    let x = X (c .before .before .before .before .before .before .before .before .before .before .before .before .before) in
+    let i = c .before .before .before .before .loop .inv in
+    let test : badId x (c .before .before .before .before .before .before .before .before .before .before .before .before .before .args .z) (c .before .before .before .before .before .before .before .before .before .before .before .before .before .args .v) (c .before .before .before .before .loop .p) ≡ false =
+    sym (Buckets.bad-id-is x (c .before .before .before .before .before .before .before .before .before .before .before .before .before .args .z) (c .before .before .before .before .before .before .before .before .before .before .before .before .before .args .v) (c .before .before .before .before .loop .p)) ∙ rw (← i .low-is) (sym (c .before .bad-id .ensures) ∙ c .if3 .left) in
+    Buckets.passed-more x _ _ _ _ i (let e = c .before .before .before .before .before .before .before .start2 .ensures in omega arith) test
+
+returns-4 : tie.Need-returns-4 Inv-loop μ-loop
+unfolding start
+returns-4 c = sym (Buckets.bad-none (X (c .before .before .before .before .before .before .before .before .before .before)) _ _ _ _ (c .before .loop .inv) (let e = c .before .before .before .before .start2 .ensures in omega arith) (let e = c .before .before .before .before .start2 .ensures in omega arith))
+
+pub bad-bucket-spec : {M : Type 1} → statement M
+bad-bucket-spec =
+    tie.close
+    (tie.spec
+    Inv-loop
+    μ-loop
+    start-requires
+    add-start
+    start-requires-2
+    returns
+    returns-2
+    mul-before
+    loop-holds
+    add-i
+    mul-i
+    shared-slice-read-i
+    cast-i
+    bad-id-requires
+    returns-3
+    add-least
+    add-p
+    loop-less
+    loop-again
+    returns-4)

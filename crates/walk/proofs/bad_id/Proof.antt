@@ -1,0 +1,50 @@
+-- `walk::bad_id` meets its contract. Assumes nothing.
+use native.Mathlib.Omega.{arith}
+use borrow.Author.Tests.{le-leb, lt-leb, lt-ltb, le-ltb}
+use Rattle.scope.proofs.Shapes.{facts, in-code}
+use Rattle.walk.proofs.Buckets.{in-parts}
+use borrow.Author.Needs.{needs}
+use Rattle.walk.proofs.bad_id.Statement.{statement}
+use Rattle.walk.proofs.bad_id.Tie as tie
+
+returns : tie.Need-returns
+returns c = rw (le-leb _ _ (c .if1 .taken))
+
+returns-2 : tie.Need-returns-2
+returns-2 c = rw (lt-leb _ _ (c .before .if1 .left), lt-ltb _ _ (c .if2 .taken))
+
+first-bit-requires : tie.Need-first-bit-requires
+first-bit-requires c κs = search needs
+
+bits-requires : tie.Need-bits-requires
+bits-requires c κs = search needs
+
+cast-entry-substring : tie.Need-cast-entry-substring
+cast-entry-substring c = search needs
+
+entry-substring-requires : tie.Need-entry-substring-requires
+entry-substring-requires c κs =
+    let f = facts _ (c .before .before .before .before .before .before .pre .0) in
+    let z = c .before .before .before .before .before .before .args .z in
+    let from = c .before .before .first-bit .ensures in
+    let bits = c .before .bits .ensures in
+    let some = f .some-bits z in
+    let few = f .few-bits z in
+    let inside = in-code _ f z (c .before .before .before .before .before .before .pre .1) in
+    let row = in-parts (c .before .before .before .before .before .before .args .i) (c .before .before .before .before .before .before .args .n) (c .before .before .before .before .before .before .args .shape .w) (c .before .before .before .before .if1 .left) in
+    (omega arith, omega arith, f .few-words, omega arith, omega arith)
+
+returns-3 : tie.Need-returns-3
+returns-3 c = rw (lt-leb _ _ (c .before .before .before .before .before .if1 .left), le-ltb _ _ (c .before .before .before .before .if2 .left), c .entry-substring .ensures, c .before .before .before .first-bit .ensures, c .before .before .bits .ensures)
+
+pub bad-id-spec : {M : Type 1} → statement M
+bad-id-spec =
+    tie.close
+    (tie.spec
+    returns
+    returns-2
+    first-bit-requires
+    bits-requires
+    cast-entry-substring
+    entry-substring-requires
+    returns-3)

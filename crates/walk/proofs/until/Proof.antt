@@ -1,0 +1,92 @@
+-- `walk::until` meets its contract. Assumes nothing.
+use mathlib.Core.Path.{_≡_, refl}
+use Prim.Native.Nat.{_+_, _-_}
+use native.Mathlib.Omega.{arith}
+use lib.ListN.{length}
+use Rattle.scope.specs.Walk.{Question}
+use Rattle.walk.specs.Steps.{asks}
+use Rattle.walk.proofs.Stepping
+use borrow.Author.Needs.{needs}
+use Rattle.walk.proofs.until.Statement.{statement}
+use Rattle.walk.proofs.until.Tie as tie
+
+abbrev Inv-loop : tie.InvT-loop
+Inv-loop shape stars codes starts ids query k top marks₀ tally₀ w₀ marks tally w =
+    Stepping.Far (asks shape stars codes starts ids query) k top w marks tally × (length marks ≡ length marks₀) × (length tally ≡ length tally₀)
+
+abbrev μ-loop : tie.MeasureT-loop
+μ-loop shape stars codes starts ids query k top marks₀ tally₀ w₀ marks tally w = top + 1 - w .at
+
+abbrev Ask : tie.Start Inv-loop μ-loop → Question
+Ask c = asks (c .args .shape) (c .args .stars .now) (c .args .codes .now) (c .args .starts .now) (c .args .ids .now) (c .args .query .now)
+
+start-requires : tie.Need-start-requires Inv-loop μ-loop
+start-requires c κs = search needs
+
+loop-holds : tie.Need-loop-holds Inv-loop μ-loop
+loop-holds c = (Stepping.far-none (Ask (c .before .before .before .before .before .before .before .before)) _ _ _ _ _ (c .start .ensures) (c .before .before .before .before .before .before .before .before .pre .1 .1), refl, refl)
+
+same-length : tie.Need-same-length Inv-loop μ-loop
+same-length c = search needs
+
+same-length-2 : tie.Need-same-length-2 Inv-loop μ-loop
+same-length-2 c = search needs
+
+returns : tie.Need-returns Inv-loop μ-loop
+returns c = Stepping.walked-near _ _ _ _ _ _ (c .before .before .before .before .loop .inv .0) (c .before .before .if1 .taken) (c .if2 .taken)
+
+step-requires : tie.Need-step-requires Inv-loop μ-loop
+step-requires c κs = (c .before .before .before .before .before .before .before .before .before .before .before .before .before .before .before .pre .0, ((let l = c .before .before .before .before .if1 .taken in let t = c .before .before .before .before .before .before .before .before .before .before .before .before .before .before .before .pre .1 .0 in omega arith), c .before .before .before .before .before .before .loop .inv .0 .going))
+
+enum-told : tie.Need-enum-told Inv-loop μ-loop
+enum-told c = search needs
+
+same-length-3 : tie.Need-same-length-3 Inv-loop μ-loop
+same-length-3 c = search needs
+
+same-length-4 : tie.Need-same-length-4 Inv-loop μ-loop
+same-length-4 c = search needs
+
+returns-2 : tie.Need-returns-2 Inv-loop μ-loop
+returns-2 c = Stepping.walked-bad _ _ _ _ _ _ (c .before .before .before .before .before .before .before .before .before .before .before .before .before .loop .inv .0) (c .before .before .before .before .before .before .before .before .before .before .before .if1 .taken) (c .before .before .before .before .before .before .before .before .before .if2 .left) _ _ _ (c .before .before .before .before .before .before .step .ensures) _ (c .enum-told .given .1)
+
+enum-told-2 : tie.Need-enum-told-2 Inv-loop μ-loop
+enum-told-2 c = search needs
+
+loop-less : tie.Need-loop-less Inv-loop μ-loop
+loop-less c = let a = c .before .before .before .before .before .before .step .ensures .at (c .enum-told2 .given .1) in let l = c .before .before .before .before .before .before .before .before .before .before .before .if1 .taken in omega arith
+
+loop-again : tie.Need-loop-again Inv-loop μ-loop
+loop-again c = (Stepping.far-more _ _ _ _ _ _ (c .before .before .before .before .before .before .before .before .before .before .before .before .before .loop .inv .0) (c .before .before .before .before .before .before .before .before .before .before .before .if1 .taken) (c .before .before .before .before .before .before .before .before .before .if2 .left) _ _ _ (c .before .before .before .before .before .before .step .ensures) (c .enum-told2 .given .1), search needs, search needs)
+
+same-length-5 : tie.Need-same-length-5 Inv-loop μ-loop
+same-length-5 c = search needs
+
+same-length-6 : tie.Need-same-length-6 Inv-loop μ-loop
+same-length-6 c = search needs
+
+returns-3 : tie.Need-returns-3 Inv-loop μ-loop
+returns-3 c = Stepping.walked-all _ _ _ _ _ _ (c .before .before .loop .inv .0) (c .if1 .left)
+
+pub until-spec : {M : Type 1} → statement M
+until-spec =
+    tie.close
+    (tie.spec
+    Inv-loop
+    μ-loop
+    start-requires
+    loop-holds
+    same-length
+    same-length-2
+    returns
+    step-requires
+    enum-told
+    same-length-3
+    same-length-4
+    returns-2
+    enum-told-2
+    loop-less
+    loop-again
+    same-length-5
+    same-length-6
+    returns-3)

@@ -1,0 +1,45 @@
+-- `walk::within` meets its contract. Assumes nothing.
+use native.Mathlib.Omega.{arith}
+use borrow.Author.Tests.{eq-eqb, ne-eqb}
+use Rattle.scope.specs.Walk.{Question}
+use Rattle.scope.specs.Search.{withinSteps}
+use Rattle.scope.proofs.Shapes.{facts}
+use Rattle.walk.specs.Steps.{asks}
+use Rattle.walk.proofs.Stepping
+use borrow.Author.Needs.{needs}
+use Rattle.walk.proofs.within.Statement.{statement}
+use Rattle.walk.proofs.within.Tie as tie
+
+abbrev Ask : tie.Start → Question
+Ask c = asks (c .args .shape) (c .args .stars .now) (c .args .codes .now) (c .args .starts .now) (c .args .ids .now) (c .args .query .now)
+
+start-requires : tie.Need-start-requires
+start-requires c κs = search needs
+
+returns : tie.Need-returns
+unfolding withinSteps
+returns c = rw (eq-eqb _ _ (c .before .if1 .taken)) (Stepping.walked-none (Ask (c .before .before .before .before .before .before .before .before .before)) _ _ _ (c .start .ensures) (c .before .before .before .before .before .before .before .before .before .pre .1 .1))
+
+until-requires : tie.Need-until-requires
+until-requires c κs = (c .before .before .before .before .before .before .before .before .before .before .pre .0, ((let f = facts _ (c .before .before .before .before .before .before .before .before .before .before .pre .0 .lent .known) .few-words in let r = c .before .before .before .before .before .before .before .before .before .before .pre .1 .0 in omega arith), c .before .before .before .before .before .before .before .before .before .before .pre .1 .1))
+
+same-length : tie.Need-same-length
+same-length c = search needs
+
+same-length-2 : tie.Need-same-length-2
+same-length-2 c = search needs
+
+returns-2 : tie.Need-returns-2
+unfolding withinSteps
+returns-2 c = rw (ne-eqb _ _ (c .before .before .before .before .before .before .before .if1 .left)) (rw (Stepping.all-steps (Ask (c .before .before .before .before .before .before .before .before .before .before .before .before .before .before .before)) 65537 (c .before .before .before .before .before .before .before .before .before .before .before .before .before .before .before .args .r) (let f = c .before .before .before .before .before .before .before .before .before .before .before .before .before .before .before .pre .0 .lent .few in omega arith)) at (c .before .before .before .before .until .ensures))
+
+pub within-spec : {M : Type 1} → statement M
+within-spec =
+    tie.close
+    (tie.spec
+    start-requires
+    returns
+    until-requires
+    same-length
+    same-length-2
+    returns-2)

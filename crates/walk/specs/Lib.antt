@@ -1,0 +1,2 @@
+-- What the walk's functions ask of what they are lent, and say of one another's results.
+pub mod Steps

@@ -1,0 +1,138 @@
+-- The state of the walk, in the lists that it is lent: what each of its functions asks, and what it leaves. Assumes nothing.
+use mathlib.Core.Path.{_≡_}
+use mathlib.Core.Bool.{Bool, true, false, _&&_, _||_}
+use mathlib.Core.List.{List, map}
+use Prim.Native.Nat.{ℕ, _+_, _*_, _≤_, _<_}
+use lib.Bits.{bitXor}
+use lib.Count.{ones}
+use lib.Dec.{eqb, ltb, leb}
+use lib.ListN.{length}
+use Rattle.theory.specs.Lists.{first, tab, upto, count, any, has}
+use Rattle.scope.specs.declared.Shape.{Shape}
+use Rattle.scope.specs.Codes.{distance, codeOf}
+use Rattle.scope.specs.Shape.{q, listed, m, startsBefore}
+use Rattle.scope.specs.Tables.{Index, index, n, bucket}
+use Rattle.scope.specs.Walk.{Question, question, distanceOf, opened, tested, openedCount, testedCount}
+use Rattle.scope.specs.Refusals.{met, unless, markWords}
+use Rattle.codes.specs.Marks.{isMarked}
+use Rattle.walk.specs.declared.Met.{Met}
+use Rattle.walk.specs.declared.Met.the-variants.{Clear, Refused}
+use Rattle.walk.specs.declared.Walk.{Walk}
+
+-- ---- what is lent
+
+-- none of refusals 1 to 3 fits
+pub record Lent (x : Index) : Type 0 where
+  pub known : listed (x .shape) ≡ true
+  pub few : n x ≤ 65536
+  pub codes : length (x .codes) ≡ n x * x .shape .w
+  pub starts : startsBefore (x .shape) (m (x .shape)) ≤ length (x .starts)
+  pub ids : m (x .shape) * n x ≤ length (x .ids)
+
+-- the same with a query of w words
+pub record Asked (ask : Question) : Type 0 where
+  pub lent : Lent (ask .index)
+  pub query : length (ask .query) ≡ ask .index .shape .w
+
+abbrev pub asks : Shape → List ℕ → List ℕ → List ℕ → List ℕ → List ℕ → Question
+asks shape stars codes starts ids query = question (index shape stars codes starts ids) query
+
+-- entry i's distance from the query
+abbrev pub distanceIn : Shape → List ℕ → List ℕ → ℕ → ℕ
+distanceIn shape codes query i = distance (q shape) (codeOf (shape .w) codes i) query
+
+-- ---- testing
+
+-- w's counts are those of the entries that the mark words mark: in the tally how many are at each distance, in `near` how many are nearer than w's steps
+pub record Counted (distance : ℕ → ℕ) (words : ℕ) (w : Walk) (marks tally : List ℕ) : Type 0 where
+  pub long : length marks ≡ words
+  pub tally-is : tally ≡ tab (λ d. count (λ i. eqb (distance i) d && isMarked marks i) (64 * words)) 257
+  pub near-is : w .near ≡ count (λ i. ltb (distance i) (w .at) && isMarked marks i) (64 * words)
+  pub tested-is : w .tested .0 ≡ count (isMarked marks) (64 * words)
+
+-- from w to r the entries that pass `new` were tested
+pub record Tests (distance : ℕ → ℕ) (words : ℕ) (new : ℕ → Bool) (w r : Walk) (marks marks′ tally′ : List ℕ) : Type 0 where
+  pub at : r .at ≡ w .at
+  pub opened : r .opened ≡ w .opened
+  pub met : r .met ≡ w .met
+  pub marked : (i : ℕ) → isMarked marks′ i ≡ (isMarked marks i || new i)
+  pub counted : Counted distance words r marks′ tally′
+
+-- ---- opening
+
+-- some bucket of l lists entry i
+abbrev pub lists : Index → List (ℕ × ℕ) → ℕ → Bool
+lists x l i = any (λ b. has i (bucket x (b .0) (b .1))) l
+
+-- of table z the buckets whose exclusive-or with `sub` is below k and has r ones, ascending by it
+abbrev pub around : ℕ → ℕ → ℕ → ℕ → List (ℕ × ℕ)
+around z r sub k = map (λ e. (z, bitXor sub e)) (upto (λ e. eqb (ones e) r) k)
+
+-- the first bad bucket of l, if one is
+unfoldable pub metIn : Index → List (ℕ × ℕ) → Met
+metIn x l = unless (met x l) Refused Clear
+
+-- from w to r the buckets l were opened, none of them bad
+pub record Opens (ask : Question) (l : List (ℕ × ℕ)) (w r : Walk) (marks marks′ tally′ : List ℕ) : Type 0 where
+  pub at : r .at ≡ w .at
+  pub opened : r .opened .0 ≡ w .opened .0 + length l
+  pub marked : (i : ℕ) → isMarked marks′ i ≡ (isMarked marks i || lists (ask .index) l i)
+  pub counted : Counted (distanceOf ask) (markWords (n (ask .index))) r marks′ tally′
+
+-- the buckets l were opened in order, up to the first bad one
+pub record Opening (ask : Question) (l : List (ℕ × ℕ)) (w r : Walk) (marks marks′ tally′ : List ℕ) : Type 0 where
+  pub met : r .met ≡ metIn (ask .index) l
+  pub clear : r .met ≡ Clear → Opens ask l w r marks marks′ tally′
+
+-- ---- steps
+
+-- no step is taken
+pub record Start (w : Walk) : Type 0 where
+  pub at : w .at ≡ 0
+  pub opened : w .opened .0 ≡ 0
+  pub tested : w .tested .0 ≡ 0
+  pub near : w .near ≡ 0
+  pub met : w .met ≡ Clear
+
+-- w is the walk after its steps, which met no bad bucket
+pub record Going (ask : Question) (w : Walk) (marks tally : List ℕ) : Type 0 where
+  pub met : w .met ≡ Clear
+  pub clear : metIn (ask .index) (opened ask (w .at)) ≡ Clear
+  pub opened : w .opened .0 ≡ length (opened ask (w .at))
+  pub marked : (i : ℕ) → isMarked marks i ≡ tested ask (w .at) i
+  pub counted : Counted (distanceOf ask) (markWords (n (ask .index))) w marks tally
+
+-- from w to r one step was taken
+pub record Stepped (ask : Question) (w r : Walk) (marks tally : List ℕ) : Type 0 where
+  pub met : r .met ≡ metIn (ask .index) (opened ask (w .at + 1))
+  pub at : r .met ≡ Clear → r .at ≡ w .at + 1
+  pub going : r .met ≡ Clear → Going ask r marks tally
+
+-- nothing is marked or counted
+pub record Fresh (words : ℕ) (marks tally : List ℕ) : Type 0 where
+  pub long : length marks ≡ words
+  pub none : (i : ℕ) → isMarked marks i ≡ false
+  pub zeros : tally ≡ tab (λ _. 0) 257
+
+-- after N steps: how many tested entries are nearer than N
+abbrev pub nearAfter : Question → ℕ → ℕ
+nearAfter ask N = count (λ i. ltb (distanceOf ask i) N && tested ask N i) (n (ask .index))
+
+-- the fewest steps after which k tested entries are nearer than their number, or all steps 0 to top
+unfoldable pub stepsTo : Question → ℕ → ℕ → ℕ
+stepsTo ask k top = first (λ N. leb k (nearAfter ask N)) (top + 1)
+
+-- N steps, none of which met a bad bucket
+pub record Ended (ask : Question) (N : ℕ) (r : Walk) (marks tally : List ℕ) : Type 0 where
+  pub long : length marks ≡ markWords (n (ask .index))
+  pub marked : (i : ℕ) → isMarked marks i ≡ tested ask N i
+  pub theirs : (i : ℕ) → isMarked marks i ≡ true → i < n (ask .index)
+  pub tally-is : tally ≡ tab (λ d. count (λ i. eqb (distanceOf ask i) d && isMarked marks i) (n (ask .index))) 257
+  pub near : r .near ≡ nearAfter ask N
+  pub opened : r .opened ≡ openedCount ask N
+  pub tested : r .tested ≡ testedCount ask N
+
+-- N steps, or as many as met the first bad bucket
+pub record Walked (ask : Question) (N : ℕ) (r : Walk) (marks tally : List ℕ) : Type 0 where
+  pub met : r .met ≡ metIn (ask .index) (opened ask N)
+  pub clear : r .met ≡ Clear → Ended ask N r marks tally
