@@ -63,21 +63,3 @@ map-tab g h (suc n) = map-append g (tab h n) (h n ∷ []) ∙ ap (λ (l : List �
 pub map-between : (g : ℕ → ℕ) (a e : ℕ) (l : List ℕ) → e - a ≡ length l → ((k : ℕ) → k < length l → g (a + k) ≡ getD l k 0) → map g (between a e) ≡ l
 map-between g a e l long h =
     map-tab g (λ k. a + k) (e - a) ∙ sym (is-tab (λ k. g (a + k)) 0 (e - a) l (sym long) (λ k lt. sym (h k (rw long at lt))))
-
--- ---- a list written from the front, place by place: g 0, .., g (k - 1) stand there, and the rest is as it was
-
-module _ {A : Type 0} (g : ℕ → A) (old : List A) where
-  pub front-next : (k : ℕ) → k < length old → set (over (tab g k) old) k (g k) ≡ over (tab g (suc k)) old
-  front-next k h =
-      rw (length-tab g k, drop-cons old k (g k) h, set-at (tab g k) (getD old k (g k)) (drop (suc k) old) (g k) k (length-tab g k), length-tab g (suc k), tab-suc g k)
-      (sym (append-assoc (tab g k) (g k ∷ []) (drop (suc k) old)))
-
-  pub front-rest : (k : ℕ) (d : A) → k < length old → getD (over (tab g k) old) k d ≡ getD old k d
-  front-rest k d h =
-      rw (length-tab g k, drop-cons old k d h) (getD-at (tab g k) (getD old k d) (drop (suc k) old) d k (length-tab g k))
-
-  pub front-all : over (tab g (length old)) old ≡ tab g (length old)
-  front-all = rw (length-tab g (length old), drop-length old) (append-nil (tab g (length old)))
-
-  pub length-front : (k : ℕ) → k ≤ length old → length (over (tab g k) old) ≡ length old
-  length-front k h = length-over (tab g k) old (rw length-tab h)
