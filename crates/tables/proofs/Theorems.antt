@@ -1,0 +1,107 @@
+-- What builder and check are to one another, and to the searches: the promises on tables. Assumes nothing.
+use mathlib.Core.Path.{_≡_, refl, sym, ap, _∙_}
+use mathlib.Core.Logic.{⊎-elim}
+use mathlib.Core.Bool.{Bool, true, false, cond}
+use mathlib.Core.List.{List}
+use Prim.Native.Nat.{ℕ, _*_, _<_}
+use native.Mathlib.Omega.{arith}
+use lib.ListN.{length}
+use Rattle.theory.specs.Lists.{over}
+use Rattle.theory.proofs.Tests.{either}
+use Rattle.theory.proofs.Lists.{length-over}
+use Rattle.scope.specs.declared.Built.{Built}
+use Rattle.scope.specs.declared.Built.the-variants.{Done, Refused}
+use Rattle.scope.specs.declared.Checked.{Checked}
+use Rattle.scope.specs.declared.Checked.the-variants as checked
+use Rattle.scope.specs.Shape.{m, size, startsBefore}
+use Rattle.scope.specs.Tables.{Index, index, n, substringOf, bucketOf, builtStarts, builtIds, sound, start, bucket, bad}
+use Rattle.scope.specs.Refusals.{oneToThree, unless}
+use Rattle.scope.specs.Calls.{BuildEnd, builds, buildAnswer, buildEnd, checkAnswer}
+use Rattle.scope.proofs.Shapes.{facts}
+use Rattle.scope.proofs.Bucketing.{rebuilt, built-sound, starts-before, ids-before, bucket-is, not-bad, first-start, last-start}
+use Rattle.tables.proofs.Unrefused.{Fits, fits, unrefused, unless-map, end-done}
+
+-- ---- any two results that a statement allows are equal, and so are the lists
+
+pub same-build : (x : Index) {r r′ : Built} {s s′ d d′ : List ℕ} → builds r s d ≡ buildEnd x → builds r′ s′ d′ ≡ buildEnd x → (r ≡ r′) × (s ≡ s′) × (d ≡ d′)
+same-build x p q =
+    let e = p ∙ sym q in
+    (ap (λ (b : BuildEnd). b .answer) e, ap (λ (b : BuildEnd). b .starts) e, ap (λ (b : BuildEnd). b .ids) e)
+
+pub same-check : (x : Index) {r r′ : Checked} → r ≡ checkAnswer x → r′ ≡ checkAnswer x → r ≡ r′
+same-check x p q = p ∙ sym q
+
+-- ---- check says yes exactly for sound tables, where nothing is refused; builder and check refuse the same calls
+
+abbrev refuses : Checked → Built
+refuses checked.Yes = Done
+refuses checked.No = Done
+refuses (checked.Refused f) = Refused f
+
+pub same-refusals : (x : Index) → refuses (checkAnswer x) ≡ buildAnswer x
+unfolding checkAnswer buildAnswer
+same-refusals x = unless-map refuses (oneToThree x) checked.Refused (cond (sound x) checked.Yes checked.No) ∙ ap (unless (oneToThree x) Refused) (done (sound x))
+  where
+    done : (t : Bool) → refuses (cond t checked.Yes checked.No) ≡ Done
+    done true = refl
+    done false = refl
+
+answer-is : (x : Index) → buildAnswer x ≡ Done → checkAnswer x ≡ cond (sound x) checked.Yes checked.No
+unfolding checkAnswer
+answer-is x b = unrefused x (fits x b) checked.Refused (cond (sound x) checked.Yes checked.No)
+
+pub sound-yes : (x : Index) → buildAnswer x ≡ Done → sound x ≡ true → checkAnswer x ≡ checked.Yes
+sound-yes x b s = answer-is x b ∙ ap (λ (t : Bool). cond t checked.Yes checked.No) s
+
+pub unsound-no : (x : Index) → buildAnswer x ≡ Done → sound x ≡ false → checkAnswer x ≡ checked.No
+unsound-no x b s = answer-is x b ∙ ap (λ (t : Bool). cond t checked.Yes checked.No) s
+
+pub yes-sound : (x : Index) → checkAnswer x ≡ checked.Yes → (buildAnswer x ≡ Done) × (sound x ≡ true)
+yes-sound x e =
+    let b : buildAnswer x ≡ Done = sym (same-refusals x) ∙ ap refuses e in
+    (b, ⊎-elim (λ s. s) (λ s. let no = unsound-no x b s in let z : _≡_ {A = ℕ} 0 1 = cc in absurd (omega arith)) (either (sound x)))
+
+-- ---- what build writes, check passes
+
+abbrev pub afterBuild : Index → Index
+afterBuild x = index (x .shape) (x .stars) (x .codes) (buildEnd x .starts) (buildEnd x .ids)
+
+after-is : (x : Index) → buildAnswer x ≡ Done → rebuilt x ≡ afterBuild x
+after-is x b =
+    let e = end-done x (over (builtStarts x) (x .starts)) (over (builtIds x) (x .ids)) b refl refl in
+    (λ i. index (x .shape) (x .stars) (x .codes) (e i .starts) (e i .ids))
+
+pub after-sound : (x : Index) → buildAnswer x ≡ Done → sound (afterBuild x) ≡ true
+after-sound x b = ap sound (sym (after-is x b)) ∙ built-sound x
+
+-- the builder's lists keep their lengths, so nothing is refused after it either
+still-fits : (x : Index) → Fits x → Fits (rebuilt x)
+unfolding builtStarts builtIds
+still-fits x f =
+    let s : length (builtStarts x) ≡ startsBefore (x .shape) (m (x .shape)) = starts-before x (facts (x .shape) (f .shape)) (m (x .shape)) in
+    let d : length (builtIds x) ≡ m (x .shape) * n x = ids-before x (m (x .shape)) in
+    record {
+      shape = f .shape;
+      few = f .few;
+      whole = f .whole;
+      starts = omega (arith, f .starts, length-over (builtStarts x) (x .starts) (omega (arith, s, f .starts)));
+      ids = omega (arith, f .ids, length-over (builtIds x) (x .ids) (omega (arith, d, f .ids)));
+    }
+
+pub after-done : (x : Index) → buildAnswer x ≡ Done → buildAnswer (afterBuild x) ≡ Done
+unfolding buildAnswer
+after-done x b = ap buildAnswer (sym (after-is x b)) ∙ unrefused (rebuilt x) (still-fits x (fits x b)) Refused Done
+
+pub build-check : (x : Index) → buildAnswer x ≡ Done → checkAnswer (afterBuild x) ≡ checked.Yes
+build-check x b = sound-yes (afterBuild x) (after-done x b) (after-sound x b)
+
+-- ---- in tables that are sound, and no call on them refused: bucket v of table z
+
+module _ (x : Index) (b : buildAnswer x ≡ Done) (s : sound x ≡ true) (z : ℕ) (h : z < m (x .shape)) where
+  -- it is not bad, and lists exactly the entries whose substring z is v, ascending
+  pub bucket-sound : (v : ℕ) → v < size (x .shape) z → (bad x z v ≡ false) × (bucket x z v ≡ bucketOf (substringOf x z) (n x) v)
+  bucket-sound v l = let f = facts (x .shape) (fits x b .shape) in (not-bad x f s z h v l, bucket-is x f s z h v l)
+
+  -- start(0) = 0, start(2^s) = n
+  pub ends-sound : (start x z 0 ≡ 0) × (start x z (size (x .shape) z) ≡ n x)
+  ends-sound = let f = facts (x .shape) (fits x b .shape) in (first-start x f s z h, last-start x f s z h)
