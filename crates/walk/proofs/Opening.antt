@@ -1,6 +1,6 @@
 -- Buckets are opened in order, up to the first bad one. Assumes nothing.
 use mathlib.Core.Path.{_≡_, refl, sym, ap, _∙_}
-use mathlib.Core.Bool.{Bool, true, false, _||_, cond, or-false, or-assoc}
+use mathlib.Core.Bool.{Bool, true, false, cond, or-false, or-assoc}
 use mathlib.Core.List.{List, [], _∷_, _++_, map, map-append}
 use Prim.Native.Nat.{ℕ, suc, _+_, _≤_}
 use native.Mathlib.Nat.{add-zero}
@@ -19,6 +19,7 @@ use Rattle.scope.specs.Tables.{Index, n, bucket, bad}
 use Rattle.scope.specs.Walk.{Question, distanceOf}
 use Rattle.scope.specs.Refusals.{Rows, met, unless, markWords}
 use Rattle.scope.proofs.Rows.{unless-append, unless-none}
+use Rattle.scope.proofs.Walking.{all-clear, one-refuses}
 use Rattle.codes.specs.Marks.{isMarked}
 use Rattle.walk.specs.declared.Met.the-variants.{Clear, Refused}
 use Rattle.walk.specs.declared.Walk.{Walk}
@@ -29,28 +30,18 @@ use Rattle.walk.specs.Steps.{lists, around, metIn, Counted, Tests, Openi
 pub not-both : {A : Type 0} {f : Refusal} → Refused f ≡ Clear → A
 not-both e = absurd (let y : _≡_ {A = ℕ} 0 1 = cc in omega arith)
 
--- rows that leave a walk clear pass every answer
-pub all-clear : (rows : Rows) → unless rows Refused Clear ≡ Clear → any (λ (row : Bool × Refusal). row .0) rows ≡ false
-unfolding unless any
-all-clear [] h = refl
-all-clear (row ∷ rows) h = go (all-clear rows) (row .0) h
-  where
-    go : (unless rows Refused Clear ≡ Clear → any (λ (r : Bool × Refusal). r .0) rows ≡ false)
-        → (t : Bool) → cond t (Refused (row .1)) (unless rows Refused Clear) ≡ Clear → (t || any (λ (r : Bool × Refusal). r .0) rows) ≡ false
-    go ih true e = not-both e
-    go ih false e = ih e
+clear-apart : (f : Refusal) → Refused f ≡ Clear → ⊥
+clear-apart f e = not-both e
 
--- rows that refuse a walk refuse every answer alike
-pub one-refuses : {A : Type 0} (rows : Rows) (f : Refusal) (refused : Refusal → A) (answer : A) → unless rows Refused Clear ≡ Refused f
-    → unless rows refused answer ≡ refused f
-unfolding unless
-one-refuses [] f refused answer h = not-both (sym h)
-one-refuses (row ∷ rows) f refused answer h = go (one-refuses rows f refused answer) (row .0) h
-  where
-    go : (unless rows Refused Clear ≡ Refused f → unless rows refused answer ≡ refused f)
-        → (t : Bool) → cond t (Refused (row .1)) (unless rows Refused Clear) ≡ Refused f → cond t (refused (row .1)) (unless rows refused answer) ≡ refused f
-    go ih true e = ap refused (cc)
-    go ih false e = ih e
+refused-same : (f g : Refusal) → Refused f ≡ Refused g → f ≡ g
+refused-same f g e = cc
+
+-- the walk's outcome decides any answer over the same buckets
+pub walk-clear : (rows : Rows) → unless rows Refused Clear ≡ Clear → any (λ (row : Bool × Refusal). row .0) rows ≡ false
+walk-clear = all-clear Refused Clear clear-apart
+
+pub walk-refused : {A : Type 0} (refused : Refusal → A) (answer : A) (rows : Rows) (f : Refusal) → unless rows Refused Clear ≡ Refused f → unless rows refused answer ≡ refused f
+walk-refused = one-refuses Refused Clear clear-apart refused-same
 
 module _ (x : Index) where
   pub met-none : metIn x [] ≡ Clear
@@ -68,16 +59,16 @@ module _ (x : Index) where
   -- after buckets of which none is bad, the rest decide; after a bad one, nothing does
   pub met-past : (l k : List (ℕ × ℕ)) → metIn x l ≡ Clear → metIn x (l ++ k) ≡ metIn x k
   unfolding metIn
-  met-past l k h = met-append l k ∙ unless-none (met x l) Refused (metIn x k) (all-clear (met x l) h)
+  met-past l k h = met-append l k ∙ unless-none (met x l) Refused (metIn x k) (walk-clear (met x l) h)
 
   pub met-stays : (l k : List (ℕ × ℕ)) (f : Refusal) → metIn x l ≡ Refused f → metIn x (l ++ k) ≡ Refused f
   unfolding metIn
-  met-stays l k f h = met-append l k ∙ one-refuses (met x l) f Refused (metIn x k) h
+  met-stays l k f h = met-append l k ∙ walk-refused Refused (metIn x k) (met x l) f h
 
   -- of clear buckets none is bad
   pub none-bad : (l : List (ℕ × ℕ)) → metIn x l ≡ Clear → any (λ b. bad x (b .0) (b .1)) l ≡ false
   unfolding metIn
-  none-bad l h = sym (any-map (λ (row : Bool × Refusal). row .0) _ l) ∙ all-clear (met x l) h
+  none-bad l h = sym (any-map (λ (row : Bool × Refusal). row .0) _ l) ∙ walk-clear (met x l) h
 
 -- ---- buckets, one after the other
 

@@ -1,0 +1,116 @@
+-- `search::nearest` meets its contract. Assumes nothing.
+use mathlib.Core.Path.{_≡_, refl, sym, _∙_}
+use mathlib.Core.List.{[], _∷_}
+use native.Mathlib.Omega.{arith}
+use lib.Seq.{length-take-le}
+use Rattle.theory.specs.Lists.{cat}
+use Rattle.scope.specs.Walk.{Question}
+use Rattle.scope.specs.Refusals.{unless, oneToFive}
+use Rattle.shapes.specs.declared.Early.{Early}
+use Rattle.shapes.specs.declared.Early.the-variants.{Fine, Refused}
+use Rattle.walk.specs.Steps.{asks}
+use Rattle.search.proofs.Refusing
+use Rattle.search.proofs.Answering
+use borrow.Author.Needs.{needs}
+use Rattle.search.proofs.nearest.Statement.{statement}
+use Rattle.search.proofs.nearest.Tie as tie
+
+abbrev Ask : tie.Start → Question
+Ask c = asks (c .args .shape) (c .args .stars .now) (c .args .codes .now) (c .args .starts .now) (c .args .ids .now) (c .args .query .now)
+
+-- none of refusals 1 to 5 fits, but for the answer lists
+fit : (c : tie.Start) (e : Early) → e ≡ unless (oneToFive (Ask c .index) (c .args .query .now) (0 ∷ []) (c .args .marks .now)) Refused Fine → e ≡ Fine
+    → Refusing.Fit (Ask c) (0 ∷ []) (c .args .marks .now)
+fit c e h f = Refusing.fit (Ask c) (0 ∷ []) (c .args .marks .now) (sym h ∙ f)
+
+refused-requires : tie.Need-refused-requires
+refused-requires c κs = search needs
+
+enum-known-early : tie.Need-enum-known-early
+enum-known-early c = search needs
+
+same-length : tie.Need-same-length
+same-length c = search needs
+
+returns : tie.Need-returns
+returns c = Answering.nearest-early (Ask (c .before .before .before .before .before .before .before .before .before .before .before .before .before)) _ _ _ (c .before .before .before .before .before .before .before .before .before .before .before .before .before .args .k) _ (sym (c .before .before .before .refused .ensures) ∙ c .before .early .given .1)
+
+enum-told : tie.Need-enum-told
+enum-told c = search needs
+
+smaller-requires : tie.Need-smaller-requires
+smaller-requires c κs = search needs
+
+smaller-requires-2 : tie.Need-smaller-requires-2
+smaller-requires-2 c κs = search needs
+
+same-length-2 : tie.Need-same-length-2
+same-length-2 c = search needs
+
+returns-2 : tie.Need-returns-2
+returns-2 c =
+    let few = c .if1 .taken in
+    let room = c .before .smaller2 .ensures in
+    let places = c .before .before .smaller .ensures in
+    Answering.nearest-few (Ask (c .before .before .before .before .before .before .before .before .before .before .before .before .before .before .before)) (c .before .before .before .before .before .before .before .before .before .before .before .before .before .before .before .args .marks .now) (c .before .before .before .before .before .before .before .before .before .before .before .before .before .before .before .args .entries .now) (c .before .before .before .before .before .before .before .before .before .before .before .before .before .before .before .args .distances .now) (c .before .before .before .before .before .before .before .before .before .before .before .before .before .before .before .args .k) (sym (c .before .before .before .before .before .refused .ensures) ∙ c .before .before .before .enum-told .given .1) (omega arith)
+
+add-words : tie.Need-add-words
+add-words c = search needs
+
+slice-relend-prefix-list-nearest : tie.Need-slice-relend-prefix-list-nearest
+slice-relend-prefix-list-nearest c = fit (c .before .before .before .before .before .before .before .before .before .before .before .before .before .before .before) _ (c .before .before .before .before .before .refused .ensures) (c .before .before .before .enum-told .given .1) .room
+
+slice-aggregate-list-nearest : tie.Need-slice-aggregate-list-nearest
+slice-aggregate-list-nearest c = sym (length-take-le _ _ (fit (c .before .before .before .before .before .before .before .before .before .before .before .before .before .before .before .before) _ (c .before .before .before .before .before .before .refused .ensures) (c .before .before .before .before .enum-told .given .1) .room))
+
+slice-aggregate-list-nearest-2 : tie.Need-slice-aggregate-list-nearest-2
+slice-aggregate-list-nearest-2 c = search needs
+
+list-nearest-requires : tie.Need-list-nearest-requires
+unfolding cat
+list-nearest-requires c κs =
+    let f = fit (c .before .before .before .before .before .before .before .before .before .before .before .before .before .before .before .before .before .before .before) _ (c .before .before .before .before .before .before .before .before .before .refused .ensures) (c .before .before .before .before .before .before .before .enum-told .given .1) in
+    let enough = c .before .before .before .before .if1 .left in
+    let room = c .before .before .before .before .before .smaller2 .ensures in
+    let places = c .before .before .before .before .before .before .smaller .ensures in
+    (f .asked, ((omega arith, omega arith, omega arith), (length-take-le _ _ (f .room), refl)))
+
+same-length-3 : tie.Need-same-length-3
+same-length-3 c = search needs
+
+same-length-4 : tie.Need-same-length-4
+same-length-4 c = search needs
+
+same-length-5 : tie.Need-same-length-5
+same-length-5 c = search needs
+
+returns-3 : tie.Need-returns-3
+returns-3 c =
+    let enough = c .before .before .before .before .before .before .before .before .before .before .before .before .if1 .left in
+    let room = c .before .before .before .before .before .before .before .before .before .before .before .before .before .smaller2 .ensures in
+    let places = c .before .before .before .before .before .before .before .before .before .before .before .before .before .before .smaller .ensures in
+    Answering.nearest-whole (Ask (c .before .before .before .before .before .before .before .before .before .before .before .before .before .before .before .before .before .before .before .before .before .before .before .before .before .before .before)) (c .before .before .before .before .before .before .before .before .before .before .before .before .before .before .before .before .before .before .before .before .before .before .before .before .before .before .before .args .marks .now) (c .before .before .before .before .before .before .before .before .before .before .before .before .before .before .before .before .before .before .before .before .before .before .before .before .before .before .before .args .entries .now) (c .before .before .before .before .before .before .before .before .before .before .before .before .before .before .before .before .before .before .before .before .before .before .before .before .before .before .before .args .distances .now) (c .before .before .before .before .before .before .before .before .before .before .before .before .before .before .before .before .before .before .before .before .before .before .before .before .before .before .before .args .k) (sym (c .before .before .before .before .before .before .before .before .before .before .before .before .before .before .before .before .before .refused .ensures) ∙ c .before .before .before .before .before .before .before .before .before .before .before .before .before .before .before .enum-told .given .1) (omega arith)
+    (fit (c .before .before .before .before .before .before .before .before .before .before .before .before .before .before .before .before .before .before .before .before .before .before .before .before .before .before .before) _ (c .before .before .before .before .before .before .before .before .before .before .before .before .before .before .before .before .before .refused .ensures) (c .before .before .before .before .before .before .before .before .before .before .before .before .before .before .before .enum-told .given .1) .room) (rw places at (c .before .before .before .before .before .before .before .list-nearest .ensures))
+
+pub nearest-spec : {M : Type 1} → statement M
+nearest-spec =
+    tie.close
+    (tie.spec
+    refused-requires
+    enum-known-early
+    same-length
+    returns
+    enum-told
+    smaller-requires
+    smaller-requires-2
+    same-length-2
+    returns-2
+    add-words
+    slice-relend-prefix-list-nearest
+    slice-aggregate-list-nearest
+    slice-aggregate-list-nearest-2
+    list-nearest-requires
+    same-length-3
+    same-length-4
+    same-length-5
+    returns-3)

@@ -1,0 +1,251 @@
+// The searches: the k nearest, and all within a radius.
+ghost use mathlib.Core.Path.{_≡_};
+ghost use mathlib.Core.List.{[], _∷_};
+ghost use Prim.Native.Nat.{min, _≤_};
+ghost use lib.ListN.{length};
+ghost use Rattle.theory.specs.Lists.{tab, over, padded};
+ghost use Rattle.scope.specs.Calls.{asked, leaves, nearestEnd, withinEnd};
+ghost use Rattle.scope.specs.Walk.{question};
+ghost use Rattle.scope.specs.Refusals.{unless, oneToFive, markWords};
+ghost use Rattle.scope.specs.Shape.{q};
+ghost use Rattle.scope.specs.Tables.{index};
+ghost use Rattle.walk.specs.Steps.{asks, Asked};
+ghost use Rattle.search.specs.Past.{nearestPast, withinPast};
+use scope::Found;
+use scope::Refusal;
+use scope::Report;
+use scope::Shape;
+use shapes::Early;
+use walk::Met;
+
+fn smaller(a: usize, b: usize) -> usize
+    ensures { λ r. ⌜ r ≡ min a b ⌝ }
+{
+    if a <= b { a } else { b }
+}
+
+// Refusals 1 to 5, but for the answer lists.
+fn refused(
+    shape: Shape,
+    stars: &[u32],
+    codes: &[u64],
+    starts: &[u32],
+    ids: &[u32],
+    query: &[u64],
+    limit: u32,
+    marks: &[u64],
+) -> Early
+    ensures { λ r. ⌜ r ≡ unless (oneToFive (index shape (now (stars .entry)) (now (codes .entry)) (now (starts .entry)) (now (ids .entry))) (now (query .entry)) (limit ∷ []) (now (marks .entry))) Early.Refused Early.Fine ⌝ }
+{
+    let early = shapes::refused_early(shape, stars, codes, starts, ids);
+    if let Early::Refused(_) = early {
+        return early;
+    }
+    if query.len() != shape.w as usize {
+        return Early::Refused(Refusal::Query);
+    }
+    if 64 * shape.w < limit {
+        return Early::Refused(Refusal::Query);
+    }
+    if marks.len() < (stars.len() + 63) / 64 {
+        return Early::Refused(Refusal::Room);
+    }
+    Early::Fine
+}
+
+// Writes zeros to the first places of both answer lists, and to all of the marks.
+fn wipe(places: usize, marks: &mut [u64], entries: &mut [u32], distances: &mut [u32])
+    requires { ⌜ (places ≤ length (now entries)) × (places ≤ length (now distances)) ⌝ }
+    ensures { λ _. ⌜ now (marks .exit) ≡ padded (length (now (marks .entry))) [] ⌝ }
+    ensures { λ _. ⌜ now (entries .exit) ≡ over (padded places []) (now (entries .entry)) ⌝ }
+    ensures { λ _. ⌜ now (distances .exit) ≡ over (padded places []) (now (distances .entry)) ⌝ }
+{
+    let words = marks.len();
+    codes::clear(marks, words);
+    ranking::wipe(entries, places);
+    ranking::wipe(distances, places);
+}
+
+// Lists the `places` nearest entries, where none of refusals 1 to 5 fits. The marks are the words that n entries need; the tally is of zeros.
+fn list_nearest(
+    shape: Shape,
+    stars: &[u32],
+    codes: &[u64],
+    starts: &[u32],
+    ids: &[u32],
+    query: &[u64],
+    places: usize,
+    marks: &mut [u64],
+    tally: &mut [u32],
+    entries: &mut [u32],
+    distances: &mut [u32],
+) -> Found
+    requires { ⌜ Asked (asks shape (now stars) (now codes) (now starts) (now ids) (now query)) ⌝ }
+    requires { ⌜ (places ≤ length (now stars)) × (places ≤ length (now entries)) × (places ≤ length (now distances)) ⌝ }
+    requires { ⌜ (length (now marks) ≡ markWords (length (now stars))) × (now tally ≡ tab (λ _. 0) 257) ⌝ }
+    ensures { λ r. ⌜ leaves r (now (marks .exit)) (now (entries .exit)) (now (distances .exit)) ≡ nearestPast (asked (asks shape (now (stars .entry)) (now (codes .entry)) (now (starts .entry)) (now (ids .entry)) (now (query .entry))) (now (marks .entry)) (now (entries .entry)) (now (distances .entry))) places ⌝ }
+{
+    let words = marks.len();
+    codes::clear(marks, words);
+    let k = places as u32;
+    let w = walk::nearest(shape, stars, codes, starts, ids, query, k, marks, tally);
+    let met = w.met;
+    if let Met::Refused(refusal) = met {
+        wipe(places, marks, entries, distances);
+        return Found::Refused(refusal);
+    }
+    let n = stars.len();
+    let limit = 64 * shape.w;
+    ranking::rank(
+        codes,
+        shape.w as usize,
+        n,
+        query,
+        limit,
+        places,
+        marks,
+        tally,
+        entries,
+        distances,
+    );
+    let opened = w.opened;
+    let tested = w.tested;
+    let answers = smaller(places, tested.0 as usize) as u32;
+    Found::Listed(Report {
+        answers,
+        opened,
+        tested,
+    })
+}
+
+// Lists the entries within r, as many as both lists hold, where none of refusals 1 to 5 fits. Marks and tally as above.
+fn list_within(
+    shape: Shape,
+    stars: &[u32],
+    codes: &[u64],
+    starts: &[u32],
+    ids: &[u32],
+    query: &[u64],
+    r: u32,
+    marks: &mut [u64],
+    tally: &mut [u32],
+    entries: &mut [u32],
+    distances: &mut [u32],
+) -> Found
+    requires { ⌜ Asked (asks shape (now stars) (now codes) (now starts) (now ids) (now query)) ⌝ }
+    requires { ⌜ r ≤ q shape ⌝ }
+    requires { ⌜ (length (now marks) ≡ markWords (length (now stars))) × (now tally ≡ tab (λ _. 0) 257) ⌝ }
+    ensures { λ o. ⌜ leaves o (now (marks .exit)) (now (entries .exit)) (now (distances .exit)) ≡ withinPast (asked (asks shape (now (stars .entry)) (now (codes .entry)) (now (starts .entry)) (now (ids .entry)) (now (query .entry))) (now (marks .entry)) (now (entries .entry)) (now (distances .entry))) r ⌝ }
+{
+    let n = stars.len();
+    let shorter = smaller(entries.len(), distances.len());
+    let places = smaller(n, shorter);
+    let words = marks.len();
+    codes::clear(marks, words);
+    let w = walk::within(shape, stars, codes, starts, ids, query, r, marks, tally);
+    let met = w.met;
+    if let Met::Refused(refusal) = met {
+        wipe(places, marks, entries, distances);
+        return Found::Refused(refusal);
+    }
+    ranking::rank(
+        codes,
+        shape.w as usize,
+        n,
+        query,
+        r,
+        places,
+        marks,
+        tally,
+        entries,
+        distances,
+    );
+    let answers = w.near;
+    if shorter < answers as usize {
+        return Found::Refused(Refusal::TooMany(answers));
+    }
+    let opened = w.opened;
+    let tested = w.tested;
+    Found::Listed(Report {
+        answers,
+        opened,
+        tested,
+    })
+}
+
+// The k nearest entries, by distance and then by number.
+pub fn nearest(
+    shape: Shape,
+    stars: &[u32],
+    codes: &[u64],
+    starts: &[u32],
+    ids: &[u32],
+    query: &[u64],
+    k: u32,
+    marks: &mut [u64],
+    entries: &mut [u32],
+    distances: &mut [u32],
+) -> Found
+    ensures { λ r. ⌜ leaves r (now (marks .exit)) (now (entries .exit)) (now (distances .exit)) ≡ nearestEnd (asked (question (index shape (now (stars .entry)) (now (codes .entry)) (now (starts .entry)) (now (ids .entry))) (now (query .entry))) (now (marks .entry)) (now (entries .entry)) (now (distances .entry))) k ⌝ }
+{
+    let early = refused(shape, stars, codes, starts, ids, query, 0, marks);
+    if let Early::Refused(refusal) = early {
+        return Found::Refused(refusal);
+    }
+    let n = stars.len();
+    let places = smaller(k as usize, n);
+    if smaller(entries.len(), distances.len()) < places {
+        return Found::Refused(Refusal::Room);
+    }
+    let words = (n + 63) / 64;
+    let mut tally = [0u32; 257];
+    list_nearest(
+        shape,
+        stars,
+        codes,
+        starts,
+        ids,
+        query,
+        places,
+        &mut marks[..words],
+        &mut tally,
+        entries,
+        distances,
+    )
+}
+
+// All entries within r of the query, by distance and then by number.
+pub fn within(
+    shape: Shape,
+    stars: &[u32],
+    codes: &[u64],
+    starts: &[u32],
+    ids: &[u32],
+    query: &[u64],
+    r: u32,
+    marks: &mut [u64],
+    entries: &mut [u32],
+    distances: &mut [u32],
+) -> Found
+    ensures { λ o. ⌜ leaves o (now (marks .exit)) (now (entries .exit)) (now (distances .exit)) ≡ withinEnd (asked (question (index shape (now (stars .entry)) (now (codes .entry)) (now (starts .entry)) (now (ids .entry))) (now (query .entry))) (now (marks .entry)) (now (entries .entry)) (now (distances .entry))) r ⌝ }
+{
+    let early = refused(shape, stars, codes, starts, ids, query, r, marks);
+    if let Early::Refused(refusal) = early {
+        return Found::Refused(refusal);
+    }
+    let words = (stars.len() + 63) / 64;
+    let mut tally = [0u32; 257];
+    list_within(
+        shape,
+        stars,
+        codes,
+        starts,
+        ids,
+        query,
+        r,
+        &mut marks[..words],
+        &mut tally,
+        entries,
+        distances,
+    )
+}
