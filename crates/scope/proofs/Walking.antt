@@ -1,16 +1,17 @@
 -- Laws of the walk: what one more step opens and tests, that buckets that are not bad list entries, and rows of refusals as a caller of the walk reads them. Assumes nothing.
 use mathlib.Core.Path.{_≡_, refl, sym, ap, _∙_}
 use mathlib.Core.Logic.{⊎-elim}
-use mathlib.Core.Bool.{Bool, true, false, _&&_, _||_, cond}
+use mathlib.Core.Bool.{Bool, true, false, not, _&&_, _||_, cond}
 use mathlib.Core.List.{List, [], _∷_, _++_}
 use Prim.Native.Nat.{ℕ, zero, suc, _+_, _-_, _*_, _/_, _%_, _≤_, _<_}
+use native.Mathlib.Nat.{le-trans}
 use native.Mathlib.Numerals.{add-one}
 use native.Mathlib.Omega.{arith}
 use lib.Dec.{eqb, ltb, leb}
 use lib.Count.{ones}
 use lib.ListN.{length, length-append, length-map}
 use borrow.Author.Tests.{eqb-true, ltb-false, leb-false}
-use Rattle.theory.specs.Lists.{cat, count, any, has}
+use Rattle.theory.specs.Lists.{cat, upto, count, any, has}
 use Rattle.theory.proofs.Tests.{either, both-ways, or-true, or-false-left, or-false-right, leb-is-ltb}
 use Rattle.theory.proofs.Lists.{cat-suc, any-append, any-one, any-none, any-map, any-cat-yes, any-cat-at}
 use Rattle.theory.proofs.Counting.{count-le, count-cong}
@@ -53,7 +54,9 @@ module _ (ask : Question) where
   -- after R + 1 steps: nearer than R + 1
   pub near-below : (R : ℕ) → length (near ask R) ≡ count (λ i. ltb (distanceOf ask i) (suc R) && tested ask (suc R) i) (n (ask .index))
   unfolding near
-  near-below R = rw (add-one R) (count-cong _ _ (n (ask .index)) (λ i _. ap (λ (b : Bool). b && tested ask (suc R) i) (leb-is-ltb (distanceOf ask i) R)))
+  near-below R =
+      ap (λ (N : ℕ). count (λ i. leb (distanceOf ask i) R && tested ask N i) (n (ask .index))) (add-one R)
+      ∙ count-cong _ _ (n (ask .index)) (λ i _. ap (λ (b : Bool). b && tested ask (suc R) i) (leb-is-ltb (distanceOf ask i) R))
 
 -- ---- what a bucket lists that is not bad
 

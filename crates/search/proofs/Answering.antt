@@ -1,12 +1,12 @@
 -- From refusals 1 to 5 to the whole of a search. Assumes nothing.
 use mathlib.Core.Path.{_≡_, refl, sym, ap, _∙_}
 use mathlib.Core.Logic.{⊎-elim}
-use mathlib.Core.Bool.{Bool, true, false, cond}
-use mathlib.Core.List.{List, [], _∷_, _++_}
+use mathlib.Core.Bool.{Bool, true, false, _||_, cond}
+use mathlib.Core.List.{List, [], _∷_, _++_, append-nil}
 use Prim.Native.Nat.{ℕ, min, _≤_, _<_}
 use native.Mathlib.Nat.{min-eq-left, min-le-right}
 use native.Mathlib.Omega.{arith}
-use lib.Dec.{eqb}
+use lib.Dec.{eqb, ltb}
 use lib.ListN.{length, take, drop, take-append-drop}
 use lib.Seq.{length-take-le}
 use borrow.Author.Tests.{le-ltb, lt-ltb}
@@ -25,6 +25,7 @@ use Rattle.scope.specs.Refusals.{Rows, refusal, unless, oneToFive, fewPlaces, t
 use Rattle.scope.specs.Calls.{Asked, asked, room, handed, walked, report, SearchEnd, leaves, searchEnd, nearestAnswer, nearestEnd, withinAnswer, withinEnd}
 use Rattle.scope.proofs.Rows.{unless-append, unless-none}
 use Rattle.scope.proofs.Ends.{end-is}
+use Rattle.shapes.specs.declared.Early.{Early}
 use Rattle.shapes.specs.declared.Early.the-variants.{Fine, Refused}
 use Rattle.search.specs.Past.{nearestFound, nearestPast, withinFound, withinPast}
 use Rattle.search.proofs.Refusing.{none-fits, one-fits, not-fine}
@@ -43,7 +44,7 @@ from-rows (row ∷ rows) f h e = go (from-rows rows f) (row .0) e
     go ih true q = let same : f ≡ row .1 = cc in ap (λ (g : Refusal). changes (refusal g .0)) same ∙ or-false-left (changes (refusal (row .1) .0)) _ h
     go ih false q = ih (or-false-right (changes (refusal (row .1) .0)) _ h) q
 
-early-keeps : (x : Index) (query limits marks : List ℕ) (f : Refusal) → unless (oneToFive x query limits marks) Refused Fine ≡ Refused f → changes (refusal f .0) ≡ false
+pub early-keeps : (x : Index) (query limits marks : List ℕ) (f : Refusal) → unless (oneToFive x query limits marks) Refused Fine ≡ Refused f → changes (refusal f .0) ≡ false
 unfolding any
 early-keeps x query limits marks f = from-rows (oneToFive x query limits marks) f refl
 
@@ -59,16 +60,16 @@ over-front l marks W e h =
     ap (λ (r : List ℕ). r ++ drop W marks) (over-all l (take W marks) (e ∙ sym (length-take-le W marks h))) ∙ ap (λ (j : ℕ). l ++ drop j marks) (sym e)
 
 module _ (ask : Question) (marks entries distances : List ℕ) where
-  abbrev words : ℕ
+  abbrev pub words : ℕ
   words = markWords (n (ask .index))
 
-  abbrev needed : Asked
+  abbrev pub needed : Asked
   needed = asked ask (take words marks) entries distances
 
   abbrev whole : Asked
   whole = asked ask marks entries distances
 
-  lent-needed : (number : ℕ) → words ≤ length marks → lent number words [] (take words marks) ++ drop words marks ≡ lent number words [] marks
+  pub lent-needed : (number : ℕ) → words ≤ length marks → lent number words [] (take words marks) ++ drop words marks ≡ lent number words [] marks
   unfolding lent
   lent-needed number h =
       ⊎-elim
@@ -85,7 +86,7 @@ module _ (ask : Question) (marks entries distances : List ℕ) where
 
   module _ (k : ℕ) where
     -- K serves as k
-    same-k : (c : Asked) → nearestPast c (K (c .question .index) k) ≡ nearestPast c k
+    pub same-k : (c : Asked) → nearestPast c (K (c .question .index) k) ≡ nearestPast c k
     unfolding nearestPast nearestFound nearestSteps nearest
     same-k c = rw (min-eq-left (min-le-right k (n (c .question .index))))
 

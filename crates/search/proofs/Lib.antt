@@ -3,3 +3,5 @@ pub mod Refusing
 pub mod Ending
 pub mod Listing
 pub mod Answering
+pub mod Judging
+pub mod Verdicts

@@ -1,20 +1,25 @@
 // The searches: the k nearest, and all within a radius.
 ghost use mathlib.Core.Path.{_≡_};
 ghost use mathlib.Core.List.{[], _∷_};
-ghost use Prim.Native.Nat.{min, _≤_};
-ghost use lib.ListN.{length};
+ghost use Prim.Native.Nat.{ℕ, min, max, _≤_, _<_};
+ghost use lib.ListN.{length, getD, take};
 ghost use Rattle.theory.specs.Lists.{tab, over, padded};
-ghost use Rattle.scope.specs.Calls.{asked, leaves, nearestEnd, withinEnd};
+ghost use Rattle.scope.specs.Calls.{asked, leaves, nearestEnd, withinEnd, judges, verdictEnd};
 ghost use Rattle.scope.specs.Walk.{question};
 ghost use Rattle.scope.specs.Refusals.{unless, oneToFive, markWords};
 ghost use Rattle.scope.specs.Shape.{q};
 ghost use Rattle.scope.specs.Tables.{index};
 ghost use Rattle.walk.specs.Steps.{asks, Asked};
+ghost use Rattle.scope.specs.Verdict.{verdictOf};
+ghost use Rattle.search.specs.Judge.{FirstTwo};
 ghost use Rattle.search.specs.Past.{nearestPast, withinPast};
 use scope::Found;
+use scope::Judged;
 use scope::Refusal;
 use scope::Report;
 use scope::Shape;
+use scope::Verdict;
+use scope::VerdictReport;
 use shapes::Early;
 use walk::Met;
 
@@ -248,4 +253,91 @@ pub fn within(
         entries,
         distances,
     )
+}
+
+// The verdict on the first answers, two at most, with reach t and gap g.
+fn judge(stars: &[u32], answers: u32, entries: &[u32], distances: &[u32], t: u32, g: u32) -> Verdict
+    requires { ⌜ FirstTwo (now stars) (now entries) (now distances) answers ⌝ }
+    ensures { λ r. ⌜ ((dist : ℕ → ℕ) → ((p : ℕ) → p < answers → getD (now (distances .entry)) p 0 ≡ dist (getD (now (entries .entry)) p 0)) → r ≡ verdictOf (λ (i : ℕ). getD (now (stars .entry)) i 0) dist t g (take answers (now (entries .entry)))) ⌝ }
+{
+    if answers == 0 {
+        return Verdict::None;
+    }
+    let distance = distances[0];
+    if t < distance {
+        return Verdict::None;
+    }
+    let star = stars[entries[0] as usize];
+    if answers == 1 {
+        return Verdict::Match { star, distance };
+    }
+    let farther = distances[1];
+    if farther - distance < g {
+        let other = stars[entries[1] as usize];
+        return Verdict::Unsure {
+            star,
+            other,
+            distance,
+            farther,
+        };
+    }
+    Verdict::Match { star, distance }
+}
+
+fn larger(a: u32, b: u32) -> u32
+    ensures { λ r. ⌜ r ≡ max a b ⌝ }
+{
+    if a <= b { b } else { a }
+}
+
+// The verdict on the nearest two, with reach t and gap g.
+pub fn verdict(
+    shape: Shape,
+    stars: &[u32],
+    codes: &[u64],
+    starts: &[u32],
+    ids: &[u32],
+    query: &[u64],
+    t: u32,
+    g: u32,
+    marks: &mut [u64],
+) -> Judged
+    ensures { λ r. ⌜ judges r (now (marks .exit)) ≡ verdictEnd (question (index shape (now (stars .entry)) (now (codes .entry)) (now (starts .entry)) (now (ids .entry))) (now (query .entry))) (now (marks .entry)) t g ⌝ }
+{
+    let early = refused(shape, stars, codes, starts, ids, query, larger(t, g), marks);
+    if let Early::Refused(refusal) = early {
+        return Judged::Refused(refusal);
+    }
+    let n = stars.len();
+    let places = smaller(2, n);
+    let words = (n + 63) / 64;
+    let mut tally = [0u32; 257];
+    let mut entries = [0u32; 2];
+    let mut distances = [0u32; 2];
+    let found = list_nearest(
+        shape,
+        stars,
+        codes,
+        starts,
+        ids,
+        query,
+        places,
+        &mut marks[..words],
+        &mut tally,
+        &mut entries,
+        &mut distances,
+    );
+    match found {
+        Found::Refused(refusal) => Judged::Refused(refusal),
+        Found::Listed(report) => {
+            let verdict = judge(stars, report.answers, &entries, &distances, t, g);
+            let opened = report.opened;
+            let tested = report.tested;
+            Judged::Given(VerdictReport {
+                verdict,
+                opened,
+                tested,
+            })
+        }
+    }
 }

@@ -1,5 +1,5 @@
 -- `search::wipe` meets its contract. Assumes nothing.
-use mathlib.Core.Path.{refl, _∙_}
+use mathlib.Core.Path.{_≡_, refl, _∙_}
 use Rattle.search.proofs.Ending
 use borrow.Author.Needs.{needs}
 use Rattle.search.proofs.wipe.Statement.{statement}

@@ -1,10 +1,10 @@
 -- `walk::bad_bucket` meets its contract: the loop passes the places whose ids are not bad. Assumes nothing.
-use mathlib.Core.Path.{_≡_, sym, _∙_}
-use mathlib.Core.Bool.{true, false}
-use Prim.Native.Nat.{_+_, _-_, _*_, _≤_}
+use mathlib.Core.Path.{_≡_, sym, ap, _∙_}
+use mathlib.Core.Bool.{Bool, true, false}
+use Prim.Native.Nat.{ℕ, _+_, _-_, _*_, _≤_, _<_}
 use native.Mathlib.Omega.{arith}
 use lib.ListN.{length}
-use Rattle.scope.specs.Tables.{Index, index, n, start, idAt, substringOf, badId}
+use Rattle.scope.specs.Tables.{Index, index, n, start, idAt, substringOf, badId, bad}
 use Rattle.scope.proofs.Shapes.{facts, few-buckets}
 use Rattle.walk.proofs.Buckets
 use borrow.Author.Needs.{needs}

@@ -1,4 +1,5 @@
 -- `walk::bad_id` meets its contract. Assumes nothing.
+use mathlib.Core.Path.{_≡_}
 use native.Mathlib.Omega.{arith}
 use borrow.Author.Tests.{le-leb, lt-leb, lt-ltb, le-ltb}
 use Rattle.scope.proofs.Shapes.{facts, in-code}

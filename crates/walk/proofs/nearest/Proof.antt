@@ -1,4 +1,5 @@
 -- `walk::nearest` meets its contract. Assumes nothing.
+use mathlib.Core.Path.{_≡_}
 use native.Mathlib.Omega.{arith}
 use Rattle.scope.specs.Walk.{Question}
 use Rattle.scope.proofs.Shapes.{facts}

@@ -1,4 +1,5 @@
 -- `walk::Walk::open_mask` meets its contract. Assumes nothing.
+use mathlib.Core.Path.{_≡_}
 use Prim.Native.Nat.{_<_}
 use lib.Bits.{bitXor, xor-lt}
 use borrow.Author.Tests.{eq-eqb, ne-eqb}

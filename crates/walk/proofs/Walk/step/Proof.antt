@@ -1,18 +1,19 @@
 -- `walk::Walk::step` meets its contract. Assumes nothing.
-use mathlib.Core.Path.{_≡_, refl}
+use mathlib.Core.Path.{_≡_, refl, sym, ap, _∙_}
 use mathlib.Core.Bool.{false}
 use mathlib.Core.List.{List}
-use Prim.Native.Nat.{ℕ, _+_, _/_, _%_, _≤_, _<_}
+use Prim.Native.Nat.{ℕ, _+_, _*_, _/_, _%_, _≤_, _<_}
 use native.Mathlib.Nat.{mod-lt, div-le-self}
 use native.Mathlib.Omega.{arith}
 use lib.ListN.{length, getD}
 use Rattle.scope.specs.Shape.{m}
+use Rattle.scope.specs.Tables.{n}
 use Rattle.scope.specs.Walk.{Question, distanceOf, opens}
 use Rattle.scope.proofs.Shapes.{facts}
 use Rattle.scope.proofs.Walking.{opened-few}
 use Rattle.walk.specs.declared.Met.the-variants.{Clear}
 use Rattle.walk.specs.declared.Walk.{Walk}
-use Rattle.walk.specs.Steps.{asks, Asked, Going}
+use Rattle.walk.specs.Steps.{asks, Asked, Counted, Going}
 use Rattle.walk.proofs.Testing
 use Rattle.walk.proofs.Stepping
 use borrow.Author.Needs.{needs}

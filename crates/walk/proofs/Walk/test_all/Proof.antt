@@ -1,16 +1,16 @@
 -- `walk::Walk::test_all` meets its contract: the loop tests the ids of the places that it passes. Assumes nothing.
-use mathlib.Core.Path.{_≡_, sym, _∙_}
-use mathlib.Core.Bool.{Bool, false, _||_}
-use mathlib.Core.List.{List, map, map-append}
-use Prim.Native.Nat.{ℕ, _+_, _-_, _*_, _≤_}
+use mathlib.Core.Path.{_≡_, refl, sym, ap, _∙_}
+use mathlib.Core.Bool.{Bool, true, false, _||_}
+use mathlib.Core.List.{List, [], _∷_, _++_, map, map-append}
+use Prim.Native.Nat.{ℕ, suc, _+_, _-_, _*_, _≤_, _<_}
 use native.Mathlib.Nat.{le-refl}
 use native.Mathlib.Numerals.{add-one}
 use native.Mathlib.Omega.{arith}
 use lib.Dec.{eqb}
-use lib.ListN.{length}
+use lib.ListN.{length, getD}
 use Rattle.theory.specs.Lists.{between, has}
 use Rattle.theory.proofs.Lists.{between-suc, between-none, has-append, has-one, has-none}
-use Rattle.scope.specs.Tables.{Index, index, n, start, idAt}
+use Rattle.scope.specs.Tables.{Index, index, n, start, idAt, bucket}
 use Rattle.scope.specs.Refusals.{markWords}
 use Rattle.scope.proofs.Shapes.{facts, few-buckets}
 use Rattle.scope.proofs.Walking.{Good, good}

@@ -1,0 +1,2 @@
+-- Laws behind the proofs of the exported functions.
+pub mod Ending

@@ -1,0 +1,41 @@
+-- `tirnavoy::sky_code` meets its contract. Assumes nothing.
+use mathlib.Core.Path.{_≡_, sym, ap, _∙_}
+use borrow.Author.Needs.{needs}
+use Rattle.tirnavoy.specs.Outs.{skyOuts}
+use Rattle.tirnavoy.proofs.sky_code.Statement.{statement}
+use Rattle.tirnavoy.proofs.sky_code.Tie as tie
+
+code-requires : tie.Need-code-requires
+code-requires c κs = search needs
+
+enum-known-made : tie.Need-enum-known-made
+enum-known-made c = search needs
+
+enum-known-refusal : tie.Need-enum-known-refusal
+enum-known-refusal c = search needs
+
+first-requires : tie.Need-first-requires
+first-requires c κs = search needs
+
+number-requires : tie.Need-number-requires
+number-requires c κs = search needs
+
+returns : tie.Need-returns
+returns c = sym (ap skyOuts (sym (c .before .before .before .code .ensures) ∙ c .before .made .given .1))
+
+returns-2 : tie.Need-returns-2
+returns-2 c =
+    let b = c .before .before .before in
+    rw (c .number .ensures, c .before .first .ensures) (sym (ap skyOuts (sym (b .before .before .code .ensures) ∙ b .refusal .given .1)))
+
+pub sky-code-spec : {M : Type 1} → statement M
+sky-code-spec =
+    tie.close
+    (tie.spec
+    code-requires
+    enum-known-made
+    enum-known-refusal
+    first-requires
+    number-requires
+    returns
+    returns-2)

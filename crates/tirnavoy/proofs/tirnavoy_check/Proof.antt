@@ -1,0 +1,45 @@
+-- `tirnavoy::tirnavoy_check` meets its contract. Assumes nothing.
+use mathlib.Core.Path.{_≡_, sym, ap, _∙_}
+use borrow.Author.Needs.{needs}
+use Rattle.tirnavoy.specs.Outs.{checkOuts}
+use Rattle.tirnavoy.proofs.tirnavoy_check.Statement.{statement}
+use Rattle.tirnavoy.proofs.tirnavoy_check.Tie as tie
+
+check-requires : tie.Need-check-requires
+check-requires c κs = search needs
+
+enum-told : tie.Need-enum-told
+enum-told c = search needs
+
+enum-told-2 : tie.Need-enum-told-2
+enum-told-2 c = search needs
+
+enum-known-refusal : tie.Need-enum-known-refusal
+enum-known-refusal c = search needs
+
+number-requires : tie.Need-number-requires
+number-requires c κs = search needs
+
+returns : tie.Need-returns
+returns c = sym (ap checkOuts (sym (c .before .before .check .ensures) ∙ c .enum-told .given .1))
+
+returns-2 : tie.Need-returns-2
+returns-2 c = sym (ap checkOuts (sym (c .before .before .check .ensures) ∙ c .enum-told2 .given .1))
+
+returns-3 : tie.Need-returns-3
+returns-3 c =
+    let b = c .before .before in
+    rw (c .number .ensures) (sym (ap checkOuts (sym (b .before .before .check .ensures) ∙ b .refusal .given .1)))
+
+pub tirnavoy-check-spec : {M : Type 1} → statement M
+tirnavoy-check-spec =
+    tie.close
+    (tie.spec
+    check-requires
+    enum-told
+    enum-told-2
+    enum-known-refusal
+    number-requires
+    returns
+    returns-2
+    returns-3)

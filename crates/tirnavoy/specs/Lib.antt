@@ -1,0 +1,2 @@
+-- What the exported functions give to C.
+pub mod Outs
