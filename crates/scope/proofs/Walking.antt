@@ -1,17 +1,16 @@
 -- Laws of the walk: what one more step opens and tests, that buckets that are not bad list entries, and rows of refusals as a caller of the walk reads them. Assumes nothing.
 use mathlib.Core.Path.{_≡_, refl, sym, ap, _∙_}
 use mathlib.Core.Logic.{⊎-elim}
-use mathlib.Core.Bool.{Bool, true, false, not, _&&_, _||_, cond}
+use mathlib.Core.Bool.{Bool, true, false, _&&_, _||_, cond}
 use mathlib.Core.List.{List, [], _∷_, _++_}
 use Prim.Native.Nat.{ℕ, zero, suc, _+_, _-_, _*_, _/_, _%_, _≤_, _<_}
-use native.Mathlib.Nat.{le-trans}
 use native.Mathlib.Numerals.{add-one}
 use native.Mathlib.Omega.{arith}
 use lib.Dec.{eqb, ltb, leb}
 use lib.Count.{ones}
 use lib.ListN.{length, length-append, length-map}
 use borrow.Author.Tests.{eqb-true, ltb-false, leb-false}
-use Rattle.theory.specs.Lists.{cat, upto, count, any, has}
+use Rattle.theory.specs.Lists.{cat, count, any, has}
 use Rattle.theory.proofs.Tests.{either, both-ways, or-true, or-false-left, or-false-right, leb-is-ltb}
 use Rattle.theory.proofs.Lists.{cat-suc, any-append, any-one, any-none, any-map, any-cat-yes, any-cat-at}
 use Rattle.theory.proofs.Counting.{count-le, count-cong}

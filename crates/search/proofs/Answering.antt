@@ -1,12 +1,12 @@
 -- From refusals 1 to 5 to the whole of a search. Assumes nothing.
 use mathlib.Core.Path.{_≡_, refl, sym, ap, _∙_}
 use mathlib.Core.Logic.{⊎-elim}
-use mathlib.Core.Bool.{Bool, true, false, _||_, cond}
-use mathlib.Core.List.{List, [], _∷_, _++_, append-nil}
+use mathlib.Core.Bool.{Bool, true, false, cond}
+use mathlib.Core.List.{List, [], _∷_, _++_}
 use Prim.Native.Nat.{ℕ, min, _≤_, _<_}
 use native.Mathlib.Nat.{min-eq-left, min-le-right}
 use native.Mathlib.Omega.{arith}
-use lib.Dec.{eqb, ltb}
+use lib.Dec.{eqb}
 use lib.ListN.{length, take, drop, take-append-drop}
 use lib.Seq.{length-take-le}
 use borrow.Author.Tests.{le-ltb, lt-ltb}
@@ -25,7 +25,6 @@ use Rattle.scope.specs.Refusals.{Rows, refusal, unless, oneToFive, fewPlaces, t
 use Rattle.scope.specs.Calls.{Asked, asked, room, handed, walked, report, SearchEnd, leaves, searchEnd, nearestAnswer, nearestEnd, withinAnswer, withinEnd}
 use Rattle.scope.proofs.Rows.{unless-append, unless-none}
 use Rattle.scope.proofs.Ends.{end-is}
-use Rattle.shapes.specs.declared.Early.{Early}
 use Rattle.shapes.specs.declared.Early.the-variants.{Fine, Refused}
 use Rattle.search.specs.Past.{nearestFound, nearestPast, withinFound, withinPast}
 use Rattle.search.proofs.Refusing.{none-fits, one-fits, not-fine}

@@ -1,14 +1,13 @@
 -- What the lists hold at the end, by the answer. Assumes nothing.
-use mathlib.Core.Path.{_≡_, refl, sym, ap, _∙_}
+use mathlib.Core.Path.{_≡_, sym, ap, _∙_}
 use mathlib.Core.Bool.{Bool, true, false, cond}
 use mathlib.Core.List.{List, [], _∷_, _++_, map, append-nil}
-use Prim.Native.Nat.{ℕ, _+_, _≤_, _<_}
-use native.Mathlib.Nat.{le-refl}
+use Prim.Native.Nat.{ℕ, _≤_}
 use native.Mathlib.Omega.{arith}
 use lib.Dec.{eqb}
-use lib.ListN.{length, getD, take, drop, drop-of-length-le}
+use lib.ListN.{length, take, drop-of-length-le}
 use lib.Seq.{getD-take}
-use Rattle.theory.specs.Lists.{tab, over, padded}
+use Rattle.theory.specs.Lists.{over, padded}
 use Rattle.theory.proofs.Lists.{tab-cong, length-padded}
 use Rattle.scope.specs.declared.Refusal.{Refusal}
 use Rattle.scope.specs.declared.Refusal.the-variants.{BadBucket}
@@ -16,9 +15,8 @@ use Rattle.scope.specs.declared.Found.{Found}
 use Rattle.scope.specs.declared.Found.the-variants as found
 use Rattle.scope.specs.Tables.{Index, n, bad}
 use Rattle.scope.specs.Walk.{distanceOf}
-use Rattle.scope.specs.Refusals.{Rows, refusal, ofFound, changes, lent, met, unless, markWords}
-use Rattle.scope.specs.Calls.{Asked, SearchEnd, leaves, searchEnd}
-use Rattle.walk.specs.declared.Met.{Met}
+use Rattle.scope.specs.Refusals.{refusal, ofFound, changes, lent, unless, markWords}
+use Rattle.scope.specs.Calls.{Asked, leaves, searchEnd}
 use Rattle.walk.specs.declared.Met.the-variants as walk
 use Rattle.walk.specs.Steps.{metIn}
 use Rattle.walk.proofs.Opening.{not-both}

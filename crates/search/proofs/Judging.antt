@@ -1,11 +1,10 @@
 -- The verdict on the first answers in two-place lists. Assumes nothing.
-use mathlib.Core.Path.{_≡_, refl, sym, ap, _∙_}
+use mathlib.Core.Path.{_≡_, refl, ap}
 use mathlib.Core.Logic.{⊎-elim}
 use mathlib.Core.List.{List, [], _∷_}
-use Prim.Native.Nat.{ℕ, zero, suc, _-_, _≤_, _<_}
+use Prim.Native.Nat.{ℕ, _-_, _≤_, _<_}
 use native.Mathlib.Omega.{arith}
 use Rattle.theory.proofs.Tests.{eq-or-ne}
-use lib.Dec.{ltb}
 use lib.ListN.{length, getD, take}
 use borrow.Author.Tests.{lt-ltb, le-ltb}
 use Rattle.scope.specs.declared.Verdict.{Verdict}

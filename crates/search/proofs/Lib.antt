@@ -5,3 +5,4 @@ pub mod Listing
 pub mod Answering
 pub mod Judging
 pub mod Verdicts
+pub mod Determined

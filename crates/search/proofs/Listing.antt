@@ -2,15 +2,14 @@
 use mathlib.Core.Path.{_≡_, refl, sym, ap, ap₂, _∙_}
 use mathlib.Core.Logic.{⊎-elim}
 use mathlib.Core.Bool.{Bool, true, false, _&&_}
-use mathlib.Core.List.{List, [], _∷_, _++_, map}
-use Prim.Native.Nat.{ℕ, zero, suc, min, _+_, _*_, _/_, _≤_, _<_}
+use mathlib.Core.List.{List, [], _∷_, map}
+use Prim.Native.Nat.{ℕ, zero, suc, min, _+_, _*_, _≤_, _<_}
 use native.Mathlib.Nat.{min-eq-left}
-use native.Mathlib.Numerals.{add-one}
 use native.Mathlib.Omega.{arith}
 use lib.Dec.{eqb, ltb}
-use lib.ListN.{length, getD, take, length-take, List·getD-eq-default}
+use lib.ListN.{length, take, length-take, List·getD-eq-default}
 use borrow.Author.Tests.{lt-ltb, le-ltb, ne-eqb}
-use Rattle.theory.specs.Lists.{cat, tab, upto, count, over, padded, ranked}
+use Rattle.theory.specs.Lists.{tab, count, over, padded, ranked}
 use Rattle.theory.proofs.Tests.{lt-or-le, eq-or-ne}
 use Rattle.theory.proofs.Lists.{cat-cong, length-padded, length-over}
 use Rattle.theory.proofs.Counting.{upto-cong, count-zero, count-le, count-cong}
@@ -18,13 +17,12 @@ use Rattle.theory.proofs.Placing.{length-ranked}
 use Rattle.scope.specs.declared.Refusal.{Refusal}
 use Rattle.scope.specs.declared.Refusal.the-variants.{TooMany}
 use Rattle.scope.specs.declared.Tested.{Tested}
-use Rattle.scope.specs.declared.Report.{Report}
 use Rattle.scope.specs.declared.Found.{Found}
 use Rattle.scope.specs.declared.Found.the-variants as found
 use Rattle.scope.specs.Codes.{codeOf}
 use Rattle.scope.specs.Shape.{q}
 use Rattle.scope.specs.Tables.{n}
-use Rattle.scope.specs.Walk.{Question, distanceOf, opened, tested, openedCount, testedCount}
+use Rattle.scope.specs.Walk.{Question, distanceOf, opened, tested}
 use Rattle.scope.specs.Search.{K, nearestSteps, answers, nearest, withinSteps, within}
 use Rattle.scope.specs.Refusals.{ofFound, changes, met, tooMany, unless, markWords}
 use Rattle.scope.specs.Calls.{asked, report, SearchEnd, leaves, searchEnd}

@@ -3,14 +3,14 @@ use mathlib.Core.Path.{_≡_, refl, sym, ap, _∙_}
 use mathlib.Core.Logic.{_⊎_, inl, inr, ⊎-elim}
 use mathlib.Core.Bool.{Bool, true, false, _||_, cond}
 use mathlib.Core.List.{List, [], _∷_, _++_, map}
-use Prim.Native.Nat.{ℕ, zero, suc, min, max, _+_, _≤_, _<_}
-use native.Mathlib.Nat.{min-le-left, min-le-right, max-eq-left, max-eq-right}
+use Prim.Native.Nat.{ℕ, zero, suc, max, _+_, _≤_, _<_}
+use native.Mathlib.Nat.{min-le-left}
 use native.Mathlib.Omega.{arith}
-use lib.Dec.{eqb, ltb}
-use lib.ListN.{length, getD, take, drop, length-take, length-map, List·getD-append, List·getD-map}
+use lib.Dec.{ltb}
+use lib.ListN.{length, getD, take, drop, length-take, List·getD-append}
 use lib.Seq.{ext-getD, getD-take, length-take-le}
 use borrow.Author.Tests.{lt-ltb, le-ltb}
-use Rattle.theory.specs.Lists.{any, over, padded, ranked}
+use Rattle.theory.specs.Lists.{any, over, padded}
 use Rattle.theory.proofs.Tests.{lt-or-le}
 use Rattle.theory.proofs.Lists.{getD-tab, length-padded, length-over}
 use Rattle.theory.proofs.Placing.{Here, here, length-ranked, place-key}
@@ -27,7 +27,7 @@ use Rattle.scope.specs.Tables.{Index, n}
 use Rattle.scope.specs.Walk.{Question, distanceOf, tested}
 use Rattle.scope.specs.Search.{K, nearestSteps, answers, nearest}
 use Rattle.scope.specs.Verdict.{verdictOf}
-use Rattle.scope.specs.Refusals.{Rows, refusal, ofFound, ofJudged, unless, oneToThree, wrongQuery, fewMarks, oneToFive, markWords, changes, lent}
+use Rattle.scope.specs.Refusals.{Rows, ofFound, unless, oneToThree, wrongQuery, fewMarks, oneToFive, markWords, lent}
 use Rattle.scope.specs.Calls.{Asked, asked, handed, walked, report, SearchEnd, leaves, searchEnd, judges, verdictAnswer, verdictEnd}
 use Rattle.scope.proofs.Rows.{unless-append, unless-none}
 use Rattle.scope.proofs.Walking.{all-clear, one-refuses}

@@ -1,16 +1,16 @@
-// The searches: the k nearest, and all within a radius.
+// The searches: the k nearest, all within a radius, and the verdict on the nearest two.
 ghost use mathlib.Core.Path.{_≡_};
 ghost use mathlib.Core.List.{[], _∷_};
 ghost use Prim.Native.Nat.{ℕ, min, max, _≤_, _<_};
 ghost use lib.ListN.{length, getD, take};
 ghost use Rattle.theory.specs.Lists.{tab, over, padded};
-ghost use Rattle.scope.specs.Calls.{asked, leaves, nearestEnd, withinEnd, judges, verdictEnd};
-ghost use Rattle.scope.specs.Walk.{question};
-ghost use Rattle.scope.specs.Refusals.{unless, oneToFive, markWords};
 ghost use Rattle.scope.specs.Shape.{q};
 ghost use Rattle.scope.specs.Tables.{index};
-ghost use Rattle.walk.specs.Steps.{asks, Asked};
+ghost use Rattle.scope.specs.Walk.{question};
 ghost use Rattle.scope.specs.Verdict.{verdictOf};
+ghost use Rattle.scope.specs.Refusals.{unless, oneToFive, markWords};
+ghost use Rattle.scope.specs.Calls.{asked, leaves, nearestEnd, withinEnd, judges, verdictEnd};
+ghost use Rattle.walk.specs.Steps.{asks, Asked};
 ghost use Rattle.search.specs.Judge.{FirstTwo};
 ghost use Rattle.search.specs.Past.{nearestPast, withinPast};
 use scope::Found;
@@ -29,7 +29,13 @@ fn smaller(a: usize, b: usize) -> usize
     if a <= b { a } else { b }
 }
 
-// Refusals 1 to 5, but for the answer lists.
+fn larger(a: u32, b: u32) -> u32
+    ensures { λ r. ⌜ r ≡ max a b ⌝ }
+{
+    if a <= b { b } else { a }
+}
+
+// Refusals 1 to 5, but for the answer lists; of several limits the largest decides.
 fn refused(
     shape: Shape,
     stars: &[u32],
@@ -282,12 +288,6 @@ fn judge(stars: &[u32], answers: u32, entries: &[u32], distances: &[u32], t: u32
         };
     }
     Verdict::Match { star, distance }
-}
-
-fn larger(a: u32, b: u32) -> u32
-    ensures { λ r. ⌜ r ≡ max a b ⌝ }
-{
-    if a <= b { b } else { a }
 }
 
 // The verdict on the nearest two, with reach t and gap g.

@@ -2,8 +2,8 @@
 use mathlib.Core.Path.{_≡_, refl, sym, ap, _∙_}
 use mathlib.Core.Logic.{⊎-elim}
 use mathlib.Core.Bool.{Bool, true, false, not, _||_, cond, or-false}
-use mathlib.Core.List.{List, [], _∷_}
-use Prim.Native.Nat.{ℕ, suc, _+_, _-_, _*_, _≤_, _<_}
+use mathlib.Core.List.{[], _∷_}
+use Prim.Native.Nat.{ℕ, _+_, _-_, _*_, _≤_, _<_}
 use native.Mathlib.Nat.{le-refl, le-trans, suc-mul, mul-le-mul-right}
 use native.Mathlib.Numerals.{add-one}
 use native.Mathlib.Omega.{arith}
@@ -11,7 +11,7 @@ use lib.Dec.{eqb, ltb, leb}
 use lib.ListN.{length}
 use borrow.Author.Tests.{lt-ltb, le-ltb}
 use Rattle.theory.specs.Lists.{any, between}
-use Rattle.theory.proofs.Tests.{or-left, or-right, lt-or-le, leb-is-ltb}
+use Rattle.theory.proofs.Tests.{or-right, lt-or-le, leb-is-ltb}
 use Rattle.theory.proofs.Lists.{any-append, any-one, any-none, any-cat-yes, between-suc, between-none}
 use Rattle.scope.specs.Shape.{m}
 use Rattle.scope.specs.Tables.{Index, n, substringOf, start, idAt, badId, bad}
@@ -84,6 +84,10 @@ module _ (x : Index) (z v : ℕ) where
       }
 
   module _ (p low : ℕ) (h : Passed p low) where
+    -- the code's test of the id at p
+    pub test-is : (t : Bool) → t ≡ (leb (n x) (idAt x z p) || ltb (idAt x z p) low || not (eqb (substringOf x z (idAt x z p)) v)) → badId x z v p ≡ t
+    test-is t e = sym (e ∙ rw (h .low-is) (bad-id-is p))
+
     pub bad-here : p < start x z (v + 1) → badId x z v p ≡ true → bad x z v ≡ true
     unfolding bad
     bad-here l e =

@@ -1,8 +1,8 @@
 -- Buckets are opened in order, up to the first bad one. Assumes nothing.
 use mathlib.Core.Path.{_≡_, refl, sym, ap, _∙_}
-use mathlib.Core.Bool.{Bool, true, false, _||_, cond, or-false, or-assoc}
+use mathlib.Core.Bool.{Bool, true, false, cond, or-false, or-assoc}
 use mathlib.Core.List.{List, [], _∷_, _++_, map, map-append}
-use Prim.Native.Nat.{ℕ, zero, suc, _+_, _*_, _≤_, _<_}
+use Prim.Native.Nat.{ℕ, suc, _+_, _≤_}
 use native.Mathlib.Nat.{add-zero}
 use native.Mathlib.Decide.{le-ind}
 use native.Mathlib.Omega.{arith}
@@ -21,10 +21,9 @@ use Rattle.scope.specs.Refusals.{Rows, met, unless, markWords}
 use Rattle.scope.proofs.Rows.{unless-append, unless-none}
 use Rattle.scope.proofs.Walking.{all-clear, one-refuses}
 use Rattle.codes.specs.Marks.{isMarked}
-use Rattle.walk.specs.declared.Met.{Met}
 use Rattle.walk.specs.declared.Met.the-variants.{Clear, Refused}
 use Rattle.walk.specs.declared.Walk.{Walk}
-use Rattle.walk.specs.Steps.{lists, around, metIn, Counted, Tests, Opens, Opening}
+use Rattle.walk.specs.Steps.{lists, around, metIn, Counted, Tests, Opening}
 
 -- ---- the first bad bucket
 

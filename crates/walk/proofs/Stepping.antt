@@ -1,30 +1,29 @@
 -- Steps, one after the other, and when they stop. Assumes nothing.
-use mathlib.Core.Path.{_≡_, refl, sym, ap, subst, _∙_}
+use mathlib.Core.Path.{_≡_, sym, ap, subst, _∙_}
 use mathlib.Core.Logic.{⊎-elim}
-use mathlib.Core.Bool.{Bool, true, false, _&&_, _||_, cond, and-false}
-use mathlib.Core.List.{List, [], _∷_, _++_}
-use Prim.Native.Nat.{ℕ, zero, suc, min, _+_, _*_, _/_, _≤_, _<_}
+use mathlib.Core.Bool.{Bool, true, false, _&&_, and-false}
+use mathlib.Core.List.{List}
+use Prim.Native.Nat.{ℕ, zero, suc, min, _+_, _*_, _≤_, _<_}
 use native.Mathlib.Nat.{le-refl, le-trans, eq-or-lt-of-le, min-eq-left}
 use native.Mathlib.Decide.{le-ind}
 use native.Mathlib.Numerals.{add-one}
 use native.Mathlib.Omega.{arith}
 use lib.Dec.{eqb, ltb, leb}
 use lib.ListN.{length, getD, length-append}
-use borrow.Author.Tests.{le-leb, lt-leb, eq-eqb, ne-eqb}
-use Rattle.theory.specs.Lists.{firstFrom, first, tab, count}
+use borrow.Author.Tests.{le-leb, lt-leb, ne-eqb}
+use Rattle.theory.specs.Lists.{firstFrom, count}
 use Rattle.theory.proofs.Tests.{either, lt-or-le, eq-or-ne}
 use Rattle.theory.proofs.Lists.{tab-cong, first-none, first-is}
 use Rattle.theory.proofs.Counting.{upto-gap, count-zero, count-cong, count-le}
 use Rattle.theory.proofs.Placing.{lower-suc, lower-zero}
 use Rattle.scope.specs.declared.Refusal.{Refusal}
 use Rattle.scope.specs.Shape.{q}
-use Rattle.scope.specs.Tables.{Index, n}
-use Rattle.scope.specs.Walk.{Question, distanceOf, opens, opened, tested, near, openedCount, testedCount}
-use Rattle.scope.specs.Search.{K, nearestSteps, withinSteps}
+use Rattle.scope.specs.Tables.{n}
+use Rattle.scope.specs.Walk.{Question, distanceOf, opens, opened, tested, near}
+use Rattle.scope.specs.Search.{nearestSteps}
 use Rattle.scope.specs.Refusals.{markWords}
 use Rattle.scope.proofs.Walking.{opened-none, opened-suc, tested-none, tested-suc, near-below, lists-entry}
 use Rattle.codes.specs.Marks.{isMarked}
-use Rattle.walk.specs.declared.Met.{Met}
 use Rattle.walk.specs.declared.Met.the-variants.{Clear, Refused}
 use Rattle.walk.specs.declared.Walk.{Walk}
 use Rattle.walk.specs.Steps.{metIn, Counted, Opening, Start, Going, Stepped, Fresh, nearAfter, stepsTo, Ended, Walked}

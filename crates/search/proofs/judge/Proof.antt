@@ -1,8 +1,8 @@
 -- `search::judge` meets its contract. Assumes nothing.
-use mathlib.Core.Path.{_≡_, sym}
-use Prim.Native.Nat.{ℕ, _<_}
+use mathlib.Core.Path.{sym}
+use Prim.Native.Nat.{ℕ}
 use native.Mathlib.Omega.{arith}
-use lib.ListN.{length, getD}
+use lib.ListN.{getD}
 use Rattle.search.proofs.Judging
 use borrow.Author.Needs.{needs}
 use Rattle.search.proofs.judge.Statement.{statement}
@@ -20,7 +20,9 @@ shared-slice-read-distance c = search needs
 
 returns-2 : tie.Need-returns-2
 unfolding star
-returns-2 c = λ dist same. sym (Judging.far (star (c .before .before .before)) dist _ _ _ _ (c .before .before .before .args .distances .now) (c .before .before .before .pre .places) (c .before .before .before .pre .few) same (let a = c .before .before .if1 .left in omega arith) (c .if2 .taken))
+returns-2 c =
+    let s = c .before .before .before in
+    λ dist same. sym (Judging.far (star s) dist _ _ _ _ (s .args .distances .now) (s .pre .places) (s .pre .few) same (let a = c .before .before .if1 .left in omega arith) (c .if2 .taken))
 
 shared-slice-read-star : tie.Need-shared-slice-read-star
 shared-slice-read-star c = search needs
@@ -36,13 +38,19 @@ shared-slice-read-star-2 c = let a = c .before .before .before .before .if1 .lef
 
 returns-3 : tie.Need-returns-3
 unfolding star
-returns-3 c = λ dist same. sym (Judging.alone (star (c .before .before .before .before .before .before)) dist _ _ _ _ (c .before .before .before .before .before .before .args .distances .now) (c .before .before .before .before .before .before .pre .places) (c .before .before .before .before .before .before .pre .few) same (c .if3 .taken) (c .before .before .before .if2 .left))
+returns-3 c =
+    let s = c .before .before .before .before .before .before in
+    let at-if2 = c .before .before .before .if2 in
+    λ dist same. sym (Judging.alone (star s) dist _ _ _ _ (s .args .distances .now) (s .pre .places) (s .pre .few) same (c .if3 .taken) (at-if2 .left))
 
 shared-slice-read-farther : tie.Need-shared-slice-read-farther
 shared-slice-read-farther c = search needs
 
 sub-if4 : tie.Need-sub-if4
-sub-if4 c = let a = c .before .before .before .before .before .before .if1 .left in let b = c .before .if3 .left in c .before .before .before .before .before .before .before .pre .order (omega arith)
+sub-if4 c =
+    let s = c .before .before .before .before .before .before .before in
+    let at-if1 = c .before .before .before .before .before .before .if1 in
+    let a = at-if1 .left in let b = c .before .if3 .left in s .pre .order (omega arith)
 
 shared-slice-read-other : tie.Need-shared-slice-read-other
 shared-slice-read-other c = search needs
@@ -51,18 +59,35 @@ cast-other : tie.Need-cast-other
 cast-other c = omega (arith, c .shared-slice-known5 .given 1)
 
 mul-other : tie.Need-mul-other
-mul-other c = let a = c .before .before .before .before .before .before .before .before .if1 .left in let b = c .before .before .before .if3 .left in omega (arith, c .before .before .before .before .before .before .before .before .before .pre .entry 1 (omega arith))
+mul-other c =
+    let s = c .before .before .before .before .before .before .before .before .before in
+    let at-if1 = c .before .before .before .before .before .before .before .before .if1 in
+    let at-if3 = c .before .before .before .if3 in
+    let a = at-if1 .left in let b = at-if3 .left in omega (arith, s .pre .entry 1 (omega arith))
 
 shared-slice-read-other-2 : tie.Need-shared-slice-read-other-2
-shared-slice-read-other-2 c = let a = c .before .before .before .before .before .before .before .before .before .if1 .left in let b = c .before .before .before .before .if3 .left in c .before .before .before .before .before .before .before .before .before .before .pre .entry 1 (omega arith)
+shared-slice-read-other-2 c =
+    let s = c .before .before .before .before .before .before .before .before .before .before in
+    let at-if1 = c .before .before .before .before .before .before .before .before .before .if1 in
+    let at-if3 = c .before .before .before .before .if3 in
+    let a = at-if1 .left in let b = at-if3 .left in s .pre .entry 1 (omega arith)
 
 returns-4 : tie.Need-returns-4
 unfolding star
-returns-4 c = λ dist same. sym (Judging.close (star (c .before .before .before .before .before .before .before .before .before .before)) dist _ _ _ _ (c .before .before .before .before .before .before .before .before .before .before .args .distances .now) (c .before .before .before .before .before .before .before .before .before .before .pre .places) (c .before .before .before .before .before .before .before .before .before .before .pre .few) same (let a = c .before .before .before .before .before .before .before .before .before .if1 .left in let b = c .before .before .before .before .if3 .left in let f = c .before .before .before .before .before .before .before .before .before .before .pre .few in omega arith) (c .before .before .before .before .before .before .before .if2 .left) (c .before .before .if4 .taken))
+returns-4 c =
+    let s = c .before .before .before .before .before .before .before .before .before .before in
+    let at-if1 = c .before .before .before .before .before .before .before .before .before .if1 in
+    let at-if2 = c .before .before .before .before .before .before .before .if2 in
+    let at-if3 = c .before .before .before .before .if3 in
+    λ dist same. sym (Judging.close (star s) dist _ _ _ _ (s .args .distances .now) (s .pre .places) (s .pre .few) same (let a = at-if1 .left in let b = at-if3 .left in let f = s .pre .few in omega arith) (at-if2 .left) (c .before .before .if4 .taken))
 
 returns-5 : tie.Need-returns-5
 unfolding star
-returns-5 c = λ dist same. sym (Judging.clear (star (c .before .before .before .before .before .before .before .before)) dist _ _ _ _ (c .before .before .before .before .before .before .before .before .args .distances .now) (c .before .before .before .before .before .before .before .before .pre .places) (c .before .before .before .before .before .before .before .before .pre .few) same (let a = c .before .before .before .before .before .before .before .if1 .left in let b = c .before .before .if3 .left in let f = c .before .before .before .before .before .before .before .before .pre .few in omega arith) (c .before .before .before .before .before .if2 .left) (c .if4 .left))
+returns-5 c =
+    let s = c .before .before .before .before .before .before .before .before in
+    let at-if1 = c .before .before .before .before .before .before .before .if1 in
+    let at-if2 = c .before .before .before .before .before .if2 in
+    λ dist same. sym (Judging.clear (star s) dist _ _ _ _ (s .args .distances .now) (s .pre .places) (s .pre .few) same (let a = at-if1 .left in let b = c .before .before .if3 .left in let f = s .pre .few in omega arith) (at-if2 .left) (c .if4 .left))
 
 pub judge-spec : {M : Type 1} → statement M
 judge-spec =

@@ -26,13 +26,18 @@ cast-k : tie.Need-cast-k
 cast-k c = search needs
 
 nearest-requires : tie.Need-nearest-requires
-nearest-requires c κs = (c .before .before .before .before .before .before .before .before .before .before .before .before .before .before .before .pre .0, (c .before .before .before .before .before .before .before .before .before .before .before .before .before .before .before .pre .1 .0 .0, Listing.fresh _ (c .before .before .before .before .before .before .before .before .before .before .before .before .before .before .before .args .marks .now) _ _ (c .before .before .before .before .before .before .before .before .before .before .before .before .before .before .before .pre .1 .1 .0) (c .before .before .before .before .clear .ensures ∙ ap (λ (k : ℕ). over (padded k []) (c .before .before .before .before .before .before .before .before .before .before .before .before .before .before .before .args .marks .now)) (c .before .before .before .before .before .before .before .before .before .before .before .before .before .before .before .pre .1 .1 .0)) (c .before .before .before .before .before .before .before .before .before .before .before .before .before .before .before .pre .1 .1 .1)))
+nearest-requires c κs =
+    let s = c .before .before .before .before .before .before .before .before .before .before .before .before .before .before .before in
+    let at-clear = c .before .before .before .before .clear in
+    (s .pre .0, (s .pre .1 .0 .0, Listing.fresh _ (s .args .marks .now) _ _ (s .pre .1 .1 .0) (at-clear .ensures ∙ ap (λ (k : ℕ). over (padded k []) (s .args .marks .now)) (s .pre .1 .1 .0)) (s .pre .1 .1 .1)))
 
 enum-known-met : tie.Need-enum-known-met
 enum-known-met c = search needs
 
 wipe-requires : tie.Need-wipe-requires
-wipe-requires c κs = (c .before .before .before .before .before .before .before .before .before .before .before .before .before .before .before .before .before .before .before .before .before .before .before .before .before .before .pre .1 .0 .1, c .before .before .before .before .before .before .before .before .before .before .before .before .before .before .before .before .before .before .before .before .before .before .before .before .before .before .pre .1 .0 .2)
+wipe-requires c κs =
+    let s = c .before .before .before .before .before .before .before .before .before .before .before .before .before .before .before .before .before .before .before .before .before .before .before .before .before .before in
+    (s .pre .1 .0 .1, s .pre .1 .0 .2)
 
 same-length : tie.Need-same-length
 same-length c = search needs
@@ -48,22 +53,30 @@ same-length-4 c = search needs
 
 returns : tie.Need-returns
 returns c =
-    let m = c .before .before .before .before .before .before .before .before .before .before .before .before .before .before .before .before .before .nearest .last .1 .1 .1 .1 .1 .1 .1 .0 in
-    let long : length m ≡ length (c .before .before .before .before .before .before .before .before .before .before .before .before .before .before .before .before .before .before .before .before .before .before .before .before .before .before .before .before .before .before .before .before .before .args .marks .now) = search needs in
-    end-is refl (c .before .before .before .before .before .before .wipe .ensures .0 ∙ ap (λ (k : ℕ). padded k []) (long ∙ c .before .before .before .before .before .before .before .before .before .before .before .before .before .before .before .before .before .before .before .before .before .before .before .before .before .before .before .before .before .before .before .before .before .pre .1 .1 .0)) (c .before .before .before .before .before .before .wipe .ensures .1 .0) (c .before .before .before .before .before .before .wipe .ensures .1 .1)
-    ∙ sym (Listing.nearest-refused (Ask (c .before .before .before .before .before .before .before .before .before .before .before .before .before .before .before .before .before .before .before .before .before .before .before .before .before .before .before .before .before .before .before .before .before)) (c .before .before .before .before .before .before .before .before .before .before .before .before .before .before .before .before .before .before .before .before .before .before .before .before .before .before .before .before .before .before .before .before .before .args .places) (c .before .before .before .before .before .before .before .before .before .before .before .before .before .before .before .before .before .before .before .before .before .before .before .before .before .before .before .before .before .before .before .before .before .pre .1 .0 .0) _ _ _ (c .before .before .before .before .before .before .before .before .before .before .before .before .before .before .before .before .before .nearest .ensures) (c .before .before .before .before .before .before .before .before .before .before .before .before .before .before .before .before .before .before .before .before .before .before .before .before .before .before .before .before .before .before .before .before .before .args .marks .now) _ _ (c .before .before .before .before .before .before .before .before .before .before .before .before .before .before .before .before .before .before .before .before .before .before .before .before .before .before .before .before .before .before .before .before .before .pre .1 .1 .0) _ (c .before .before .before .before .before .before .before .before .before .before .before .met .given .1))
+    let long : length (c .before .before .before .before .before .before .before .before .before .before .before .before .before .before .before .before .before .nearest .last .1 .1 .1 .1 .1 .1 .1 .0) ≡ length (c .before .before .before .before .before .before .before .before .before .before .before .before .before .before .before .before .before .before .before .before .before .before .before .before .before .before .before .before .before .before .before .before .before .args .marks .now) = search needs in
+    let s = c .before .before .before .before .before .before .before .before .before .before .before .before .before .before .before .before .before .before .before .before .before .before .before .before .before .before .before .before .before .before .before .before .before in
+    let walked = c .before .before .before .before .before .before .before .before .before .before .before .before .before .before .before .before .before .nearest in
+    let wiped = c .before .before .before .before .before .before .wipe .ensures in
+    end-is refl (wiped .0 ∙ ap (λ (k : ℕ). padded k []) (long ∙ s .pre .1 .1 .0)) (wiped .1 .0) (wiped .1 .1)
+    ∙ sym (Listing.nearest-refused (Ask s) (s .args .places) (s .pre .1 .0 .0) _ _ _ (walked .ensures) (s .args .marks .now) _ _ (s .pre .1 .1 .0) _ (c .before .before .before .before .before .before .before .before .before .before .before .met .given .1))
 
 enum-told : tie.Need-enum-told
 enum-told c = search needs
 
 mul-limit : tie.Need-mul-limit
-mul-limit c = let w = facts _ (c .before .before .before .before .before .before .before .before .before .before .before .before .before .before .before .before .before .before .before .before .before .before .before .pre .0 .lent .known) .few-words in omega arith
+mul-limit c =
+    let s = c .before .before .before .before .before .before .before .before .before .before .before .before .before .before .before .before .before .before .before .before .before .before .before in
+    let w = facts _ (s .pre .0 .lent .known) .few-words in omega arith
 
 cast-rank : tie.Need-cast-rank
 cast-rank c = search needs
 
 rank-requires : tie.Need-rank-requires
-rank-requires c κs = Listing.rankable (Ask (c .before .before .before .before .before .before .before .before .before .before .before .before .before .before .before .before .before .before .before .before .before .before .before .before .before .before .before .before)) _ _ _ _ (c .before .before .before .before .before .before .before .before .before .before .before .before .before .before .before .before .before .before .before .before .before .before .before .before .before .before .before .before .pre .0) (c .before .before .before .before .before .before .before .before .before .before .before .before .nearest .ensures .clear (c .before .before .before .before .before .before .enum-told .given .1)) _ _ _ (c .before .before .before .before .before .before .before .before .before .before .before .before .before .before .before .before .before .before .before .before .before .before .before .before .before .before .before .before .pre .1 .0 .1) (c .before .before .before .before .before .before .before .before .before .before .before .before .before .before .before .before .before .before .before .before .before .before .before .before .before .before .before .before .pre .1 .0 .2)
+rank-requires c κs =
+    let s = c .before .before .before .before .before .before .before .before .before .before .before .before .before .before .before .before .before .before .before .before .before .before .before .before .before .before .before .before in
+    let at-nearest = c .before .before .before .before .before .before .before .before .before .before .before .before .nearest in
+    let at-enum-told = c .before .before .before .before .before .before .enum-told in
+    Listing.rankable (Ask s) _ _ _ _ (s .pre .0) (at-nearest .ensures .clear (at-enum-told .given .1)) _ _ _ (s .pre .1 .0 .1) (s .pre .1 .0 .2)
 
 cast-smaller : tie.Need-cast-smaller
 cast-smaller c = search needs
@@ -88,10 +101,14 @@ same-length-8 c = search needs
 
 returns-2 : tie.Need-returns-2
 returns-2 c =
-    let ended = c .before .before .before .before .before .before .before .before .before .before .before .before .before .before .before .before .before .before .before .before .before .before .before .before .before .nearest .ensures .clear (c .before .before .before .before .before .before .before .before .before .before .before .before .before .before .before .before .before .before .before .enum-told .given .1) in
-    end-is (ap (λ (a : ℕ). Listed (record { answers = a; opened = c .before .before .before .before .before .before .before .before .before .before .before .before .before .before .before .before .before .before .before .before .before .before .before .before .before .nearest .result .opened; tested = c .before .before .before .before .before .before .before .before .before .before .before .before .before .before .before .before .before .before .before .before .before .before .before .before .before .nearest .result .tested })) (c .smaller .ensures))
-    (c .before .before .before .before .before .before .before .before .before .before .before .before .rank .ensures .cleared ∙ Ending.wiped-all _ _ (ended .long)) (c .before .before .before .before .before .before .before .before .before .before .before .before .rank .ensures .listed) (c .before .before .before .before .before .before .before .before .before .before .before .before .rank .ensures .measured)
-    ∙ sym (Listing.nearest-listed (Ask (c .before .before .before .before .before .before .before .before .before .before .before .before .before .before .before .before .before .before .before .before .before .before .before .before .before .before .before .before .before .before .before .before .before .before .before .before .before .before .before .before .before)) (c .before .before .before .before .before .before .before .before .before .before .before .before .before .before .before .before .before .before .before .before .before .before .before .before .before .before .before .before .before .before .before .before .before .before .before .before .before .before .before .before .before .args .places) (c .before .before .before .before .before .before .before .before .before .before .before .before .before .before .before .before .before .before .before .before .before .before .before .before .before .before .before .before .before .before .before .before .before .before .before .before .before .before .before .before .before .pre .1 .0 .0) _ _ _ (c .before .before .before .before .before .before .before .before .before .before .before .before .before .before .before .before .before .before .before .before .before .before .before .before .before .nearest .ensures) (c .before .before .before .before .before .before .before .before .before .before .before .before .before .before .before .before .before .before .before .before .before .before .before .before .before .before .before .before .before .before .before .before .before .before .before .before .before .before .before .before .before .args .marks .now) _ _ (c .before .before .before .before .before .before .before .before .before .before .before .before .before .before .before .before .before .before .before .before .before .before .before .before .before .before .before .before .before .before .before .before .before .before .before .before .before .before .before .before .before .pre .1 .1 .0) (c .before .before .before .before .before .before .before .before .before .before .before .before .before .before .before .before .before .before .before .enum-told .given .1))
+    let s = c .before .before .before .before .before .before .before .before .before .before .before .before .before .before .before .before .before .before .before .before .before .before .before .before .before .before .before .before .before .before .before .before .before .before .before .before .before .before .before .before .before in
+    let at-nearest = c .before .before .before .before .before .before .before .before .before .before .before .before .before .before .before .before .before .before .before .before .before .before .before .before .before .nearest in
+    let at-enum-told = c .before .before .before .before .before .before .before .before .before .before .before .before .before .before .before .before .before .before .before .enum-told in
+    let at-rank = c .before .before .before .before .before .before .before .before .before .before .before .before .rank in
+    let ended = at-nearest .ensures .clear (at-enum-told .given .1) in
+    end-is (ap (λ (a : ℕ). Listed (record { answers = a; opened = at-nearest .result .opened; tested = at-nearest .result .tested })) (c .smaller .ensures))
+    (at-rank .ensures .cleared ∙ Ending.wiped-all _ _ (ended .long)) (at-rank .ensures .listed) (at-rank .ensures .measured)
+    ∙ sym (Listing.nearest-listed (Ask s) (s .args .places) (s .pre .1 .0 .0) _ _ _ (at-nearest .ensures) (s .args .marks .now) _ _ (s .pre .1 .1 .0) (at-enum-told .given .1))
 
 pub list-nearest-spec : {M : Type 1} → statement M
 list-nearest-spec =

@@ -27,7 +27,10 @@ clear-requires : tie.Need-clear-requires
 clear-requires c κs = search needs
 
 within-requires : tie.Need-within-requires
-within-requires c κs = (c .before .before .before .before .before .before .before .before .before .before .before .before .before .before .before .before .before .pre .0, (c .before .before .before .before .before .before .before .before .before .before .before .before .before .before .before .before .before .pre .1 .0, Listing.fresh _ (c .before .before .before .before .before .before .before .before .before .before .before .before .before .before .before .before .before .args .marks .now) _ _ (c .before .before .before .before .before .before .before .before .before .before .before .before .before .before .before .before .before .pre .1 .1 .0) (c .before .before .before .before .clear .ensures ∙ ap (λ (k : ℕ). over (padded k []) (c .before .before .before .before .before .before .before .before .before .before .before .before .before .before .before .before .before .args .marks .now)) (c .before .before .before .before .before .before .before .before .before .before .before .before .before .before .before .before .before .pre .1 .1 .0)) (c .before .before .before .before .before .before .before .before .before .before .before .before .before .before .before .before .before .pre .1 .1 .1)))
+within-requires c κs =
+    let s = c .before .before .before .before .before .before .before .before .before .before .before .before .before .before .before .before .before in
+    let at-clear = c .before .before .before .before .clear in
+    (s .pre .0, (s .pre .1 .0, Listing.fresh _ (s .args .marks .now) _ _ (s .pre .1 .1 .0) (at-clear .ensures ∙ ap (λ (k : ℕ). over (padded k []) (s .args .marks .now)) (s .pre .1 .1 .0)) (s .pre .1 .1 .1)))
 
 enum-known-met : tie.Need-enum-known-met
 enum-known-met c = search needs
@@ -49,10 +52,12 @@ same-length-4 c = search needs
 
 returns : tie.Need-returns
 returns c =
-    let m = c .before .before .before .before .before .before .before .before .before .before .before .before .before .before .before .before .before .within .last .1 .1 .1 .1 .1 .1 .1 .0 in
-    let long : length m ≡ length (c .before .before .before .before .before .before .before .before .before .before .before .before .before .before .before .before .before .before .before .before .before .before .before .before .before .before .before .before .before .before .before .before .before .before .before .args .marks .now) = search needs in
-    end-is refl (c .before .before .before .before .before .before .wipe .ensures .0 ∙ ap (λ (k : ℕ). padded k []) (long ∙ c .before .before .before .before .before .before .before .before .before .before .before .before .before .before .before .before .before .before .before .before .before .before .before .before .before .before .before .before .before .before .before .before .before .before .before .pre .1 .1 .0)) (c .before .before .before .before .before .before .wipe .ensures .1 .0) (c .before .before .before .before .before .before .wipe .ensures .1 .1)
-    ∙ sym (Listing.within-refused (Ask (c .before .before .before .before .before .before .before .before .before .before .before .before .before .before .before .before .before .before .before .before .before .before .before .before .before .before .before .before .before .before .before .before .before .before .before)) (c .before .before .before .before .before .before .before .before .before .before .before .before .before .before .before .before .before .before .before .before .before .before .before .before .before .before .before .before .before .before .before .before .before .before .before .args .r) _ _ _ (c .before .before .before .before .before .before .before .before .before .before .before .before .before .before .before .before .before .within .ensures) (c .before .before .before .before .before .before .before .before .before .before .before .before .before .before .before .before .before .before .before .before .before .before .before .before .before .before .before .before .before .before .before .before .before .before .before .args .marks .now) _ _ (c .before .before .before .before .before .before .before .before .before .before .before .before .before .before .before .before .before .before .before .before .before .before .before .before .before .before .before .before .before .before .before .before .before .before .before .pre .1 .1 .0) _ _ (c .before .before .before .before .before .before .before .before .before .before .before .before .before .before .before .before .before .before .before .before .before .before .before .before .before .smaller .ensures) (c .before .before .before .before .before .before .before .before .before .before .before .before .before .before .before .before .before .before .before .before .before .before .before .before .smaller2 .ensures) _ (c .before .before .before .before .before .before .before .before .before .before .before .met .given .1))
+    let long : length (c .before .before .before .before .before .before .before .before .before .before .before .before .before .before .before .before .before .within .last .1 .1 .1 .1 .1 .1 .1 .0) ≡ length (c .before .before .before .before .before .before .before .before .before .before .before .before .before .before .before .before .before .before .before .before .before .before .before .before .before .before .before .before .before .before .before .before .before .before .before .args .marks .now) = search needs in
+    let s = c .before .before .before .before .before .before .before .before .before .before .before .before .before .before .before .before .before .before .before .before .before .before .before .before .before .before .before .before .before .before .before .before .before .before .before in
+    let walked = c .before .before .before .before .before .before .before .before .before .before .before .before .before .before .before .before .before .within in
+    let wiped = c .before .before .before .before .before .before .wipe .ensures in
+    end-is refl (wiped .0 ∙ ap (λ (k : ℕ). padded k []) (long ∙ s .pre .1 .1 .0)) (wiped .1 .0) (wiped .1 .1)
+    ∙ sym (Listing.within-refused (Ask s) (s .args .r) _ _ _ (walked .ensures) (s .args .marks .now) _ _ (s .pre .1 .1 .0) _ _ (c .before .before .before .before .before .before .before .before .before .before .before .before .before .before .before .before .before .before .before .before .before .before .before .before .before .smaller .ensures) (c .before .before .before .before .before .before .before .before .before .before .before .before .before .before .before .before .before .before .before .before .before .before .before .before .smaller2 .ensures) _ (c .before .before .before .before .before .before .before .before .before .before .before .met .given .1))
 
 enum-told : tie.Need-enum-told
 enum-told c = search needs
@@ -62,14 +67,22 @@ cast-rank c = search needs
 
 rank-requires : tie.Need-rank-requires
 rank-requires c κs =
-    let s = c .before .before .before .before .before .before .before .before .before .before .before .before .before .before .before .before .before .before .before .smaller .ensures in
-    let p = c .before .before .before .before .before .before .before .before .before .before .before .before .before .before .before .before .before .before .smaller2 .ensures in
-    Listing.rankable (Ask (c .before .before .before .before .before .before .before .before .before .before .before .before .before .before .before .before .before .before .before .before .before .before .before .before .before .before .before .before .before)) _ _ _ _ (c .before .before .before .before .before .before .before .before .before .before .before .before .before .before .before .before .before .before .before .before .before .before .before .before .before .before .before .before .before .pre .0) (c .before .before .before .before .before .before .before .before .before .before .before .within .ensures .clear (c .before .before .before .before .before .enum-told .given .1)) _ _ _ (omega arith) (omega arith)
+    let s = c .before .before .before .before .before .before .before .before .before .before .before .before .before .before .before .before .before .before .before .before .before .before .before .before .before .before .before .before .before in
+    let at-smaller = c .before .before .before .before .before .before .before .before .before .before .before .before .before .before .before .before .before .before .before .smaller in
+    let at-smaller2 = c .before .before .before .before .before .before .before .before .before .before .before .before .before .before .before .before .before .before .smaller2 in
+    let at-within = c .before .before .before .before .before .before .before .before .before .before .before .within in
+    let at-enum-told = c .before .before .before .before .before .enum-told in
+    let shorter = at-smaller .ensures in
+    let places = at-smaller2 .ensures in
+    Listing.rankable (Ask s) _ _ _ _ (s .pre .0) (at-within .ensures .clear (at-enum-told .given .1)) _ _ _ (omega arith) (omega arith)
 
 cast-if1 : tie.Need-cast-if1
 cast-if1 c =
-    let few = c .before .before .before .before .before .before .before .before .before .before .before .before .before .before .before .before .before .before .before .before .before .before .before .before .before .before .before .before .before .before .before .before .before .before .before .before .before .before .pre .0 .lent .few in
-    omega (arith, Listing.near-few (Ask (c .before .before .before .before .before .before .before .before .before .before .before .before .before .before .before .before .before .before .before .before .before .before .before .before .before .before .before .before .before .before .before .before .before .before .before .before .before .before)) _ _ _ _ (c .before .before .before .before .before .before .before .before .before .before .before .before .before .before .before .before .before .before .before .before .within .ensures .clear (c .before .before .before .before .before .before .before .before .before .before .before .before .before .before .enum-told .given .1)))
+    let s = c .before .before .before .before .before .before .before .before .before .before .before .before .before .before .before .before .before .before .before .before .before .before .before .before .before .before .before .before .before .before .before .before .before .before .before .before .before .before in
+    let at-within = c .before .before .before .before .before .before .before .before .before .before .before .before .before .before .before .before .before .before .before .before .within in
+    let at-enum-told = c .before .before .before .before .before .before .before .before .before .before .before .before .before .before .enum-told in
+    let few = s .pre .0 .lent .few in
+    omega (arith, Listing.near-few (Ask s) _ _ _ _ (at-within .ensures .clear (at-enum-told .given .1)))
 
 same-length-5 : tie.Need-same-length-5
 same-length-5 c = search needs
@@ -85,9 +98,15 @@ same-length-8 c = search needs
 
 returns-2 : tie.Need-returns-2
 returns-2 c =
-    let ended = c .before .before .before .before .before .before .before .before .before .before .before .before .before .before .before .before .before .before .before .before .before .within .ensures .clear (c .before .before .before .before .before .before .before .before .before .before .before .before .before .before .before .enum-told .given .1) in
-    end-is refl (c .before .before .before .before .before .before .before .before .before .rank .ensures .cleared ∙ Ending.wiped-all _ _ (ended .long)) (c .before .before .before .before .before .before .before .before .before .rank .ensures .listed) (c .before .before .before .before .before .before .before .before .before .rank .ensures .measured)
-    ∙ sym (Listing.within-many (Ask (c .before .before .before .before .before .before .before .before .before .before .before .before .before .before .before .before .before .before .before .before .before .before .before .before .before .before .before .before .before .before .before .before .before .before .before .before .before .before .before)) (c .before .before .before .before .before .before .before .before .before .before .before .before .before .before .before .before .before .before .before .before .before .before .before .before .before .before .before .before .before .before .before .before .before .before .before .before .before .before .before .args .r) _ _ _ (c .before .before .before .before .before .before .before .before .before .before .before .before .before .before .before .before .before .before .before .before .before .within .ensures) (c .before .before .before .before .before .before .before .before .before .before .before .before .before .before .before .before .before .before .before .before .before .before .before .before .before .before .before .before .before .before .before .before .before .before .before .before .before .before .before .args .marks .now) _ _ (c .before .before .before .before .before .before .before .before .before .before .before .before .before .before .before .before .before .before .before .before .before .before .before .before .before .before .before .before .before .before .before .before .before .before .before .before .before .before .before .pre .1 .1 .0) _ _ (c .before .before .before .before .before .before .before .before .before .before .before .before .before .before .before .before .before .before .before .before .before .before .before .before .before .before .before .before .before .smaller .ensures) (c .before .before .before .before .before .before .before .before .before .before .before .before .before .before .before .before .before .before .before .before .before .before .before .before .before .before .before .before .smaller2 .ensures) (c .before .before .before .before .before .before .before .before .before .before .before .before .before .before .before .enum-told .given .1) (c .if1 .taken))
+    let s = c .before .before .before .before .before .before .before .before .before .before .before .before .before .before .before .before .before .before .before .before .before .before .before .before .before .before .before .before .before .before .before .before .before .before .before .before .before .before .before in
+    let at-smaller = c .before .before .before .before .before .before .before .before .before .before .before .before .before .before .before .before .before .before .before .before .before .before .before .before .before .before .before .before .before .smaller in
+    let at-smaller2 = c .before .before .before .before .before .before .before .before .before .before .before .before .before .before .before .before .before .before .before .before .before .before .before .before .before .before .before .before .smaller2 in
+    let at-within = c .before .before .before .before .before .before .before .before .before .before .before .before .before .before .before .before .before .before .before .before .before .within in
+    let at-enum-told = c .before .before .before .before .before .before .before .before .before .before .before .before .before .before .before .enum-told in
+    let at-rank = c .before .before .before .before .before .before .before .before .before .rank in
+    let ended = at-within .ensures .clear (at-enum-told .given .1) in
+    end-is refl (at-rank .ensures .cleared ∙ Ending.wiped-all _ _ (ended .long)) (at-rank .ensures .listed) (at-rank .ensures .measured)
+    ∙ sym (Listing.within-many (Ask s) (s .args .r) _ _ _ (at-within .ensures) (s .args .marks .now) _ _ (s .pre .1 .1 .0) _ _ (at-smaller .ensures) (at-smaller2 .ensures) (at-enum-told .given .1) (c .if1 .taken))
 
 same-length-9 : tie.Need-same-length-9
 same-length-9 c = search needs
@@ -103,9 +122,15 @@ same-length-12 c = search needs
 
 returns-3 : tie.Need-returns-3
 returns-3 c =
-    let ended = c .before .before .before .before .before .before .before .before .before .before .before .before .before .before .before .before .before .before .before .before .before .before .before .within .ensures .clear (c .before .before .before .before .before .before .before .before .before .before .before .before .before .before .before .before .before .enum-told .given .1) in
-    end-is refl (c .before .before .before .before .before .before .before .before .before .before .before .rank .ensures .cleared ∙ Ending.wiped-all _ _ (ended .long)) (c .before .before .before .before .before .before .before .before .before .before .before .rank .ensures .listed) (c .before .before .before .before .before .before .before .before .before .before .before .rank .ensures .measured)
-    ∙ sym (Listing.within-listed (Ask (c .before .before .before .before .before .before .before .before .before .before .before .before .before .before .before .before .before .before .before .before .before .before .before .before .before .before .before .before .before .before .before .before .before .before .before .before .before .before .before .before .before)) (c .before .before .before .before .before .before .before .before .before .before .before .before .before .before .before .before .before .before .before .before .before .before .before .before .before .before .before .before .before .before .before .before .before .before .before .before .before .before .before .before .before .args .r) _ _ _ (c .before .before .before .before .before .before .before .before .before .before .before .before .before .before .before .before .before .before .before .before .before .before .before .within .ensures) (c .before .before .before .before .before .before .before .before .before .before .before .before .before .before .before .before .before .before .before .before .before .before .before .before .before .before .before .before .before .before .before .before .before .before .before .before .before .before .before .before .before .args .marks .now) _ _ (c .before .before .before .before .before .before .before .before .before .before .before .before .before .before .before .before .before .before .before .before .before .before .before .before .before .before .before .before .before .before .before .before .before .before .before .before .before .before .before .before .before .pre .1 .1 .0) _ _ (c .before .before .before .before .before .before .before .before .before .before .before .before .before .before .before .before .before .before .before .before .before .before .before .before .before .before .before .before .before .before .before .smaller .ensures) (c .before .before .before .before .before .before .before .before .before .before .before .before .before .before .before .before .before .before .before .before .before .before .before .before .before .before .before .before .before .before .smaller2 .ensures) (c .before .before .before .before .before .before .before .before .before .before .before .before .before .before .before .before .before .enum-told .given .1) (c .before .before .if1 .left))
+    let s = c .before .before .before .before .before .before .before .before .before .before .before .before .before .before .before .before .before .before .before .before .before .before .before .before .before .before .before .before .before .before .before .before .before .before .before .before .before .before .before .before .before in
+    let at-smaller = c .before .before .before .before .before .before .before .before .before .before .before .before .before .before .before .before .before .before .before .before .before .before .before .before .before .before .before .before .before .before .before .smaller in
+    let at-smaller2 = c .before .before .before .before .before .before .before .before .before .before .before .before .before .before .before .before .before .before .before .before .before .before .before .before .before .before .before .before .before .before .smaller2 in
+    let at-within = c .before .before .before .before .before .before .before .before .before .before .before .before .before .before .before .before .before .before .before .before .before .before .before .within in
+    let at-enum-told = c .before .before .before .before .before .before .before .before .before .before .before .before .before .before .before .before .before .enum-told in
+    let at-rank = c .before .before .before .before .before .before .before .before .before .before .before .rank in
+    let ended = at-within .ensures .clear (at-enum-told .given .1) in
+    end-is refl (at-rank .ensures .cleared ∙ Ending.wiped-all _ _ (ended .long)) (at-rank .ensures .listed) (at-rank .ensures .measured)
+    ∙ sym (Listing.within-listed (Ask s) (s .args .r) _ _ _ (at-within .ensures) (s .args .marks .now) _ _ (s .pre .1 .1 .0) _ _ (at-smaller .ensures) (at-smaller2 .ensures) (at-enum-told .given .1) (c .before .before .if1 .left))
 
 pub list-within-spec : {M : Type 1} → statement M
 list-within-spec =

@@ -1,8 +1,6 @@
 -- `search::nearest` meets its contract. Assumes nothing.
-use mathlib.Core.Path.{_≡_, refl, sym, ap, _∙_}
+use mathlib.Core.Path.{_≡_, refl, sym, _∙_}
 use mathlib.Core.List.{[], _∷_}
-use Prim.Native.Nat.{min}
-use native.Mathlib.Nat.{min-le-left, min-le-right}
 use native.Mathlib.Omega.{arith}
 use lib.Seq.{length-take-le}
 use Rattle.theory.specs.Lists.{cat}
@@ -35,7 +33,10 @@ same-length : tie.Need-same-length
 same-length c = search needs
 
 returns : tie.Need-returns
-returns c = Answering.nearest-early (Ask (c .before .before .before .before .before .before .before .before .before .before .before .before .before)) _ _ _ (c .before .before .before .before .before .before .before .before .before .before .before .before .before .args .k) _ (sym (c .before .before .before .refused .ensures) ∙ c .before .early .given .1)
+returns c =
+    let s = c .before .before .before .before .before .before .before .before .before .before .before .before .before in
+    let at-refused = c .before .before .before .refused in
+    Answering.nearest-early (Ask s) _ _ _ (s .args .k) _ (sym (at-refused .ensures) ∙ c .before .early .given .1)
 
 enum-told : tie.Need-enum-told
 enum-told c = search needs
@@ -51,19 +52,30 @@ same-length-2 c = search needs
 
 returns-2 : tie.Need-returns-2
 returns-2 c =
+    let s = c .before .before .before .before .before .before .before .before .before .before .before .before .before .before .before in
+    let at-refused = c .before .before .before .before .before .refused in
+    let at-enum-told = c .before .before .before .enum-told in
     let few = c .if1 .taken in
     let room = c .before .smaller2 .ensures in
     let places = c .before .before .smaller .ensures in
-    Answering.nearest-few (Ask (c .before .before .before .before .before .before .before .before .before .before .before .before .before .before .before)) (c .before .before .before .before .before .before .before .before .before .before .before .before .before .before .before .args .marks .now) (c .before .before .before .before .before .before .before .before .before .before .before .before .before .before .before .args .entries .now) (c .before .before .before .before .before .before .before .before .before .before .before .before .before .before .before .args .distances .now) (c .before .before .before .before .before .before .before .before .before .before .before .before .before .before .before .args .k) (sym (c .before .before .before .before .before .refused .ensures) ∙ c .before .before .before .enum-told .given .1) (omega arith)
+    Answering.nearest-few (Ask s) (s .args .marks .now) (s .args .entries .now) (s .args .distances .now) (s .args .k) (sym (at-refused .ensures) ∙ at-enum-told .given .1) (omega arith)
 
 add-words : tie.Need-add-words
 add-words c = search needs
 
 slice-relend-prefix-list-nearest : tie.Need-slice-relend-prefix-list-nearest
-slice-relend-prefix-list-nearest c = fit (c .before .before .before .before .before .before .before .before .before .before .before .before .before .before .before) _ (c .before .before .before .before .before .refused .ensures) (c .before .before .before .enum-told .given .1) .room
+slice-relend-prefix-list-nearest c =
+    let s = c .before .before .before .before .before .before .before .before .before .before .before .before .before .before .before in
+    let at-refused = c .before .before .before .before .before .refused in
+    let at-enum-told = c .before .before .before .enum-told in
+    fit s _ (at-refused .ensures) (at-enum-told .given .1) .room
 
 slice-aggregate-list-nearest : tie.Need-slice-aggregate-list-nearest
-slice-aggregate-list-nearest c = sym (length-take-le _ _ (fit (c .before .before .before .before .before .before .before .before .before .before .before .before .before .before .before .before) _ (c .before .before .before .before .before .before .refused .ensures) (c .before .before .before .before .enum-told .given .1) .room))
+slice-aggregate-list-nearest c =
+    let s = c .before .before .before .before .before .before .before .before .before .before .before .before .before .before .before .before in
+    let at-refused = c .before .before .before .before .before .before .refused in
+    let at-enum-told = c .before .before .before .before .enum-told in
+    sym (length-take-le _ _ (fit s _ (at-refused .ensures) (at-enum-told .given .1) .room))
 
 slice-aggregate-list-nearest-2 : tie.Need-slice-aggregate-list-nearest-2
 slice-aggregate-list-nearest-2 c = search needs
@@ -71,10 +83,16 @@ slice-aggregate-list-nearest-2 c = search needs
 list-nearest-requires : tie.Need-list-nearest-requires
 unfolding cat
 list-nearest-requires c κs =
-    let f = fit (c .before .before .before .before .before .before .before .before .before .before .before .before .before .before .before .before .before .before .before) _ (c .before .before .before .before .before .before .before .before .before .refused .ensures) (c .before .before .before .before .before .before .before .enum-told .given .1) in
-    let enough = c .before .before .before .before .if1 .left in
-    let room = c .before .before .before .before .before .smaller2 .ensures in
-    let places = c .before .before .before .before .before .before .smaller .ensures in
+    let s = c .before .before .before .before .before .before .before .before .before .before .before .before .before .before .before .before .before .before .before in
+    let at-refused = c .before .before .before .before .before .before .before .before .before .refused in
+    let at-enum-told = c .before .before .before .before .before .before .before .enum-told in
+    let at-smaller = c .before .before .before .before .before .before .smaller in
+    let at-smaller2 = c .before .before .before .before .before .smaller2 in
+    let at-if1 = c .before .before .before .before .if1 in
+    let f = fit s _ (at-refused .ensures) (at-enum-told .given .1) in
+    let enough = at-if1 .left in
+    let room = at-smaller2 .ensures in
+    let places = at-smaller .ensures in
     (f .asked, ((omega arith, omega arith, omega arith), (length-take-le _ _ (f .room), refl)))
 
 same-length-3 : tie.Need-same-length-3
@@ -88,11 +106,18 @@ same-length-5 c = search needs
 
 returns-3 : tie.Need-returns-3
 returns-3 c =
-    let enough = c .before .before .before .before .before .before .before .before .before .before .before .before .if1 .left in
-    let room = c .before .before .before .before .before .before .before .before .before .before .before .before .before .smaller2 .ensures in
-    let places = c .before .before .before .before .before .before .before .before .before .before .before .before .before .before .smaller .ensures in
-    Answering.nearest-whole (Ask (c .before .before .before .before .before .before .before .before .before .before .before .before .before .before .before .before .before .before .before .before .before .before .before .before .before .before .before)) (c .before .before .before .before .before .before .before .before .before .before .before .before .before .before .before .before .before .before .before .before .before .before .before .before .before .before .before .args .marks .now) (c .before .before .before .before .before .before .before .before .before .before .before .before .before .before .before .before .before .before .before .before .before .before .before .before .before .before .before .args .entries .now) (c .before .before .before .before .before .before .before .before .before .before .before .before .before .before .before .before .before .before .before .before .before .before .before .before .before .before .before .args .distances .now) (c .before .before .before .before .before .before .before .before .before .before .before .before .before .before .before .before .before .before .before .before .before .before .before .before .before .before .before .args .k) (sym (c .before .before .before .before .before .before .before .before .before .before .before .before .before .before .before .before .before .refused .ensures) ∙ c .before .before .before .before .before .before .before .before .before .before .before .before .before .before .before .enum-told .given .1) (omega arith)
-    (fit (c .before .before .before .before .before .before .before .before .before .before .before .before .before .before .before .before .before .before .before .before .before .before .before .before .before .before .before) _ (c .before .before .before .before .before .before .before .before .before .before .before .before .before .before .before .before .before .refused .ensures) (c .before .before .before .before .before .before .before .before .before .before .before .before .before .before .before .enum-told .given .1) .room) (rw places at (c .before .before .before .before .before .before .before .list-nearest .ensures))
+    let s = c .before .before .before .before .before .before .before .before .before .before .before .before .before .before .before .before .before .before .before .before .before .before .before .before .before .before .before in
+    let at-refused = c .before .before .before .before .before .before .before .before .before .before .before .before .before .before .before .before .before .refused in
+    let at-enum-told = c .before .before .before .before .before .before .before .before .before .before .before .before .before .before .before .enum-told in
+    let at-smaller = c .before .before .before .before .before .before .before .before .before .before .before .before .before .before .smaller in
+    let at-smaller2 = c .before .before .before .before .before .before .before .before .before .before .before .before .before .smaller2 in
+    let at-if1 = c .before .before .before .before .before .before .before .before .before .before .before .before .if1 in
+    let at-list-nearest = c .before .before .before .before .before .before .before .list-nearest in
+    let enough = at-if1 .left in
+    let room = at-smaller2 .ensures in
+    let places = at-smaller .ensures in
+    Answering.nearest-whole (Ask s) (s .args .marks .now) (s .args .entries .now) (s .args .distances .now) (s .args .k) (sym (at-refused .ensures) ∙ at-enum-told .given .1) (omega arith)
+    (fit s _ (at-refused .ensures) (at-enum-told .given .1) .room) (rw places at (at-list-nearest .ensures))
 
 pub nearest-spec : {M : Type 1} → statement M
 nearest-spec =

@@ -1,6 +1,5 @@
 -- `search::refused` meets its contract: its tests are the rows of refusals 1 to 5. Assumes nothing.
 use mathlib.Core.Path.{_≡_, sym, _∙_}
-use mathlib.Core.Bool.{Bool}
 use mathlib.Core.List.{[], _∷_}
 use native.Mathlib.Omega.{arith}
 use borrow.Author.Tests.{eq-eqb, ne-eqb, lt-ltb, le-ltb}
@@ -31,7 +30,9 @@ enum-told : tie.Need-enum-told
 enum-told c = search needs
 
 returns : tie.Need-returns
-returns c = Refusing.refused-first (X (c .before .before .before .before .before .before .before .before .before)) (c .before .before .before .before .before .before .before .before .before .args .query .now) (c .before .before .before .before .before .before .before .before .before .args .limit ∷ []) (c .before .before .before .before .before .before .before .before .before .args .marks .now) _ (c .before .before .refused-early .ensures) _ (c .enum-told .given .1)
+returns c =
+    let s = c .before .before .before .before .before .before .before .before .before in
+    Refusing.refused-first (X s) (s .args .query .now) (s .args .limit ∷ []) (s .args .marks .now) _ (c .before .before .refused-early .ensures) _ (c .enum-told .given .1)
 
 enum-told-2 : tie.Need-enum-told-2
 enum-told-2 c = search needs
@@ -41,28 +42,48 @@ cast-if1 c = search needs
 
 returns-2 : tie.Need-returns-2
 unfolding unless any
-returns-2 c = sym (next (c .before .before .before .before .before .before .before .before .before .before .before) _ (c .before .before .before .before .refused-early .ensures) (c .before .before .enum-told2 .given .1) ∙ rw (ne-eqb _ _ (c .if1 .taken)))
+returns-2 c =
+    let s = c .before .before .before .before .before .before .before .before .before .before .before in
+    let at-refused-early = c .before .before .before .before .refused-early in
+    sym (next s _ (at-refused-early .ensures) (c .before .before .enum-told2 .given .1) ∙ rw (ne-eqb _ _ (c .if1 .taken)))
 
 mul-if2 : tie.Need-mul-if2
 mul-if2 c =
-    let l = Refusing.lent (X (c .before .before .before .before .before .before .before .before .before .before .before .before)) (Refusing.none-fits _ (sym (c .before .before .before .before .before .refused-early .ensures) ∙ c .before .before .before .enum-told2 .given .1)) in
+    let s = c .before .before .before .before .before .before .before .before .before .before .before .before in
+    let at-refused-early = c .before .before .before .before .before .refused-early in
+    let at-enum-told2 = c .before .before .before .enum-told2 in
+    let l = Refusing.lent (X s) (Refusing.none-fits _ (sym (at-refused-early .ensures) ∙ at-enum-told2 .given .1)) in
     let w = facts _ (l .known) .few-words in
     omega arith
 
 returns-3 : tie.Need-returns-3
 unfolding unless any
-returns-3 c = sym (next (c .before .before .before .before .before .before .before .before .before .before .before .before .before) _ (c .before .before .before .before .before .before .refused-early .ensures) (c .before .before .before .before .enum-told2 .given .1) ∙ rw (eq-eqb _ _ (c .before .before .if1 .left), lt-ltb _ _ (c .if2 .taken)))
+returns-3 c =
+    let s = c .before .before .before .before .before .before .before .before .before .before .before .before .before in
+    let at-refused-early = c .before .before .before .before .before .before .refused-early in
+    let at-enum-told2 = c .before .before .before .before .enum-told2 in
+    sym (next s _ (at-refused-early .ensures) (at-enum-told2 .given .1) ∙ rw (eq-eqb _ _ (c .before .before .if1 .left), lt-ltb _ _ (c .if2 .taken)))
 
 add-if3 : tie.Need-add-if3
 add-if3 c = search needs
 
 returns-4 : tie.Need-returns-4
 unfolding unless any
-returns-4 c = sym (next (c .before .before .before .before .before .before .before .before .before .before .before .before .before .before) _ (c .before .before .before .before .before .before .before .refused-early .ensures) (c .before .before .before .before .before .enum-told2 .given .1) ∙ rw (eq-eqb _ _ (c .before .before .before .if1 .left), le-ltb _ _ (c .before .if2 .left), lt-ltb _ _ (c .if3 .taken)))
+returns-4 c =
+    let s = c .before .before .before .before .before .before .before .before .before .before .before .before .before .before in
+    let at-refused-early = c .before .before .before .before .before .before .before .refused-early in
+    let at-enum-told2 = c .before .before .before .before .before .enum-told2 in
+    let at-if1 = c .before .before .before .if1 in
+    sym (next s _ (at-refused-early .ensures) (at-enum-told2 .given .1) ∙ rw (eq-eqb _ _ (at-if1 .left), le-ltb _ _ (c .before .if2 .left), lt-ltb _ _ (c .if3 .taken)))
 
 returns-5 : tie.Need-returns-5
 unfolding unless any
-returns-5 c = sym (next (c .before .before .before .before .before .before .before .before .before .before .before .before .before .before) _ (c .before .before .before .before .before .before .before .refused-early .ensures) (c .before .before .before .before .before .enum-told2 .given .1) ∙ rw (eq-eqb _ _ (c .before .before .before .if1 .left), le-ltb _ _ (c .before .if2 .left), le-ltb _ _ (c .if3 .left)))
+returns-5 c =
+    let s = c .before .before .before .before .before .before .before .before .before .before .before .before .before .before in
+    let at-refused-early = c .before .before .before .before .before .before .before .refused-early in
+    let at-enum-told2 = c .before .before .before .before .before .enum-told2 in
+    let at-if1 = c .before .before .before .if1 in
+    sym (next s _ (at-refused-early .ensures) (at-enum-told2 .given .1) ∙ rw (eq-eqb _ _ (at-if1 .left), le-ltb _ _ (c .before .if2 .left), le-ltb _ _ (c .if3 .left)))
 
 pub refused-spec : {M : Type 1} → statement M
 refused-spec =

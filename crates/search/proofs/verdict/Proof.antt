@@ -2,7 +2,6 @@
 use mathlib.Core.Path.{_≡_, refl, sym, ap, _∙_}
 use mathlib.Core.List.{[], _∷_}
 use Prim.Native.Nat.{ℕ, max}
-use native.Mathlib.Nat.{min-le-left, min-le-right}
 use native.Mathlib.Omega.{arith}
 use lib.ListN.{getD}
 use lib.Seq.{length-take-le}
@@ -46,7 +45,11 @@ same-length : tie.Need-same-length
 same-length c = search needs
 
 returns : tie.Need-returns
-returns c = Verdicts.verdict-early (Ask (c .before .before .before .before .before .before .before .before .before .before .before .before)) _ _ _ _ (outcome (c .before .before .before .before .before .before .before .before .before .before .before .before) _ _ (c .before .before .before .before .before .larger .ensures) (c .before .before .before .refused .ensures) ∙ c .before .early .given .1)
+returns c =
+    let s = c .before .before .before .before .before .before .before .before .before .before .before .before in
+    let at-larger = c .before .before .before .before .before .larger in
+    let at-refused = c .before .before .before .refused in
+    Verdicts.verdict-early (Ask s) _ _ _ _ (outcome s _ _ (at-larger .ensures) (at-refused .ensures) ∙ c .before .early .given .1)
 
 enum-told : tie.Need-enum-told
 enum-told c = search needs
@@ -58,10 +61,18 @@ add-words : tie.Need-add-words
 add-words c = search needs
 
 slice-relend-prefix-list-nearest : tie.Need-slice-relend-prefix-list-nearest
-slice-relend-prefix-list-nearest c = fit (c .before .before .before .before .before .before .before .before .before .before .before .before) _ _ (c .before .before .before .before .before .larger .ensures) (c .before .before .before .refused .ensures) (c .before .enum-told .given .1) .room
+slice-relend-prefix-list-nearest c =
+    let s = c .before .before .before .before .before .before .before .before .before .before .before .before in
+    let at-larger = c .before .before .before .before .before .larger in
+    let at-refused = c .before .before .before .refused in
+    fit s _ _ (at-larger .ensures) (at-refused .ensures) (c .before .enum-told .given .1) .room
 
 slice-aggregate-list-nearest : tie.Need-slice-aggregate-list-nearest
-slice-aggregate-list-nearest c = sym (length-take-le _ _ (fit (c .before .before .before .before .before .before .before .before .before .before .before .before .before) _ _ (c .before .before .before .before .before .before .larger .ensures) (c .before .before .before .before .refused .ensures) (c .before .before .enum-told .given .1) .room))
+slice-aggregate-list-nearest c =
+    let s = c .before .before .before .before .before .before .before .before .before .before .before .before .before in
+    let at-larger = c .before .before .before .before .before .before .larger in
+    let at-refused = c .before .before .before .before .refused in
+    sym (length-take-le _ _ (fit s _ _ (at-larger .ensures) (at-refused .ensures) (c .before .before .enum-told .given .1) .room))
 
 slice-aggregate-list-nearest-2 : tie.Need-slice-aggregate-list-nearest-2
 slice-aggregate-list-nearest-2 c = search needs
@@ -75,8 +86,13 @@ slice-aggregate-list-nearest-4 c = search needs
 list-nearest-requires : tie.Need-list-nearest-requires
 unfolding cat
 list-nearest-requires c κs =
-    let f = fit (c .before .before .before .before .before .before .before .before .before .before .before .before .before .before .before .before) _ _ (c .before .before .before .before .before .before .before .before .before .larger .ensures) (c .before .before .before .before .before .before .before .refused .ensures) (c .before .before .before .before .before .enum-told .given .1) in
-    let places = c .before .before .before .before .smaller .ensures in
+    let s = c .before .before .before .before .before .before .before .before .before .before .before .before .before .before .before .before in
+    let at-larger = c .before .before .before .before .before .before .before .before .before .larger in
+    let at-refused = c .before .before .before .before .before .before .before .refused in
+    let at-enum-told = c .before .before .before .before .before .enum-told in
+    let at-smaller = c .before .before .before .before .smaller in
+    let f = fit s _ _ (at-larger .ensures) (at-refused .ensures) (at-enum-told .given .1) in
+    let places = at-smaller .ensures in
     (f .asked, ((omega arith, omega arith, omega arith), (length-take-le _ _ (f .room), refl)))
 
 enum-known-found : tie.Need-enum-known-found
@@ -93,34 +109,54 @@ slice-aggregate-judge-2 c = search needs
 
 judge-requires : tie.Need-judge-requires
 judge-requires c κs =
-    let fine = outcome (c .before .before .before .before .before .before .before .before .before .before .before .before .before .before .before .before .before .before .before .before .before .before .before .before .before .before .before) _ _ (c .before .before .before .before .before .before .before .before .before .before .before .before .before .before .before .before .before .before .before .before .larger .ensures) (c .before .before .before .before .before .before .before .before .before .before .before .before .before .before .before .before .before .before .refused .ensures) ∙ c .before .before .before .before .before .before .before .before .before .before .before .before .before .before .before .before .enum-told .given .1 in
-    let room = fit (c .before .before .before .before .before .before .before .before .before .before .before .before .before .before .before .before .before .before .before .before .before .before .before .before .before .before .before) _ _ (c .before .before .before .before .before .before .before .before .before .before .before .before .before .before .before .before .before .before .before .before .larger .ensures) (c .before .before .before .before .before .before .before .before .before .before .before .before .before .before .before .before .before .before .refused .ensures) (c .before .before .before .before .before .before .before .before .before .before .before .before .before .before .before .before .enum-told .given .1) .room in
-    let end = rw (c .before .before .before .before .before .before .before .before .before .before .before .before .before .before .before .smaller .ensures) at (c .before .before .before .before .before .before .before .before .before .before .list-nearest .ensures) in
-    Verdicts.first-two (Ask (c .before .before .before .before .before .before .before .before .before .before .before .before .before .before .before .before .before .before .before .before .before .before .before .before .before .before .before)) (c .before .before .before .before .before .before .before .before .before .before .before .before .before .before .before .before .before .before .before .before .before .before .before .before .before .before .before .args .marks .now) (c .before .before .before .before .before .before .before .before .before .before .before .before .before .before .before .before .before .before .before .before .before .before .before .before .before .before .before .args .t) (c .before .before .before .before .before .before .before .before .before .before .before .before .before .before .before .before .before .before .before .before .before .before .before .before .before .before .before .args .g) fine room _ _ _ _ end _ (c .before .before .before .found2 .given .1)
+    let s = c .before .before .before .before .before .before .before .before .before .before .before .before .before .before .before .before .before .before .before .before .before .before .before .before .before .before .before in
+    let at-larger = c .before .before .before .before .before .before .before .before .before .before .before .before .before .before .before .before .before .before .before .before .larger in
+    let at-refused = c .before .before .before .before .before .before .before .before .before .before .before .before .before .before .before .before .before .before .refused in
+    let at-enum-told = c .before .before .before .before .before .before .before .before .before .before .before .before .before .before .before .before .enum-told in
+    let at-smaller = c .before .before .before .before .before .before .before .before .before .before .before .before .before .before .before .smaller in
+    let at-list-nearest = c .before .before .before .before .before .before .before .before .before .before .list-nearest in
+    let at-found2 = c .before .before .before .found2 in
+    let fine = outcome s _ _ (at-larger .ensures) (at-refused .ensures) ∙ at-enum-told .given .1 in
+    let room = fit s _ _ (at-larger .ensures) (at-refused .ensures) (at-enum-told .given .1) .room in
+    let end = rw (at-smaller .ensures) at (at-list-nearest .ensures) in
+    Verdicts.first-two (Ask s) (s .args .marks .now) (s .args .t) (s .args .g) fine room _ _ _ _ end _ (at-found2 .given .1)
 
 same-length-2 : tie.Need-same-length-2
 same-length-2 c = search needs
 
 returns-2 : tie.Need-returns-2
 returns-2 c =
-    let fine = outcome (c .before .before .before .before .before .before .before .before .before .before .before .before .before .before .before .before .before .before .before .before .before .before .before .before .before) _ _ (c .before .before .before .before .before .before .before .before .before .before .before .before .before .before .before .before .before .before .larger .ensures) (c .before .before .before .before .before .before .before .before .before .before .before .before .before .before .before .before .refused .ensures) ∙ c .before .before .before .before .before .before .before .before .before .before .before .before .before .before .enum-told .given .1 in
-    let room = fit (c .before .before .before .before .before .before .before .before .before .before .before .before .before .before .before .before .before .before .before .before .before .before .before .before .before) _ _ (c .before .before .before .before .before .before .before .before .before .before .before .before .before .before .before .before .before .before .larger .ensures) (c .before .before .before .before .before .before .before .before .before .before .before .before .before .before .before .before .refused .ensures) (c .before .before .before .before .before .before .before .before .before .before .before .before .before .before .enum-told .given .1) .room in
-    let end = rw (c .before .before .before .before .before .before .before .before .before .before .before .before .before .smaller .ensures) at (c .before .before .before .before .before .before .before .before .list-nearest .ensures) in
-    Verdicts.verdict-refused (Ask (c .before .before .before .before .before .before .before .before .before .before .before .before .before .before .before .before .before .before .before .before .before .before .before .before .before)) (c .before .before .before .before .before .before .before .before .before .before .before .before .before .before .before .before .before .before .before .before .before .before .before .before .before .args .marks .now) (c .before .before .before .before .before .before .before .before .before .before .before .before .before .before .before .before .before .before .before .before .before .before .before .before .before .args .t) (c .before .before .before .before .before .before .before .before .before .before .before .before .before .before .before .before .before .before .before .before .before .before .before .before .before .args .g) fine room _ _ _ _ end _ (c .before .found .given .1)
+    let s = c .before .before .before .before .before .before .before .before .before .before .before .before .before .before .before .before .before .before .before .before .before .before .before .before .before in
+    let at-larger = c .before .before .before .before .before .before .before .before .before .before .before .before .before .before .before .before .before .before .larger in
+    let at-refused = c .before .before .before .before .before .before .before .before .before .before .before .before .before .before .before .before .refused in
+    let at-enum-told = c .before .before .before .before .before .before .before .before .before .before .before .before .before .before .enum-told in
+    let at-smaller = c .before .before .before .before .before .before .before .before .before .before .before .before .before .smaller in
+    let at-list-nearest = c .before .before .before .before .before .before .before .before .list-nearest in
+    let fine = outcome s _ _ (at-larger .ensures) (at-refused .ensures) ∙ at-enum-told .given .1 in
+    let room = fit s _ _ (at-larger .ensures) (at-refused .ensures) (at-enum-told .given .1) .room in
+    let end = rw (at-smaller .ensures) at (at-list-nearest .ensures) in
+    Verdicts.verdict-refused (Ask s) (s .args .marks .now) (s .args .t) (s .args .g) fine room _ _ _ _ end _ (c .before .found .given .1)
 
 same-length-3 : tie.Need-same-length-3
 same-length-3 c = search needs
 
 returns-3 : tie.Need-returns-3
 returns-3 c =
-    let fine = outcome (c .before .before .before .before .before .before .before .before .before .before .before .before .before .before .before .before .before .before .before .before .before .before .before .before .before .before .before .before .before .before) _ _ (c .before .before .before .before .before .before .before .before .before .before .before .before .before .before .before .before .before .before .before .before .before .before .before .larger .ensures) (c .before .before .before .before .before .before .before .before .before .before .before .before .before .before .before .before .before .before .before .before .before .refused .ensures) ∙ c .before .before .before .before .before .before .before .before .before .before .before .before .before .before .before .before .before .before .before .enum-told .given .1 in
-    let room = fit (c .before .before .before .before .before .before .before .before .before .before .before .before .before .before .before .before .before .before .before .before .before .before .before .before .before .before .before .before .before .before) _ _ (c .before .before .before .before .before .before .before .before .before .before .before .before .before .before .before .before .before .before .before .before .before .before .before .larger .ensures) (c .before .before .before .before .before .before .before .before .before .before .before .before .before .before .before .before .before .before .before .before .before .refused .ensures) (c .before .before .before .before .before .before .before .before .before .before .before .before .before .before .before .before .before .before .before .enum-told .given .1) .room in
-    let end = rw (c .before .before .before .before .before .before .before .before .before .before .before .before .before .before .before .before .before .before .smaller .ensures) at (c .before .before .before .before .before .before .before .before .before .before .before .before .before .list-nearest .ensures) in
-    let rep = c .before .before .before .before .before .before .found2 .given .0 .0 in
-    let is = c .before .before .before .before .before .before .found2 .given .1 in
-    Verdicts.verdict-given (Ask (c .before .before .before .before .before .before .before .before .before .before .before .before .before .before .before .before .before .before .before .before .before .before .before .before .before .before .before .before .before .before)) (c .before .before .before .before .before .before .before .before .before .before .before .before .before .before .before .before .before .before .before .before .before .before .before .before .before .before .before .before .before .before .args .marks .now) (c .before .before .before .before .before .before .before .before .before .before .before .before .before .before .before .before .before .before .before .before .before .before .before .before .before .before .before .before .before .before .args .t) (c .before .before .before .before .before .before .before .before .before .before .before .before .before .before .before .before .before .before .before .before .before .before .before .before .before .before .before .before .before .before .args .g) fine room _ _ _ _ end rep is _
-    (c .before .before .judge .ensures (distanceOf (Ask (c .before .before .before .before .before .before .before .before .before .before .before .before .before .before .before .before .before .before .before .before .before .before .before .before .before .before .before .before .before .before))) (Verdicts.same-distances (Ask (c .before .before .before .before .before .before .before .before .before .before .before .before .before .before .before .before .before .before .before .before .before .before .before .before .before .before .before .before .before .before)) (c .before .before .before .before .before .before .before .before .before .before .before .before .before .before .before .before .before .before .before .before .before .before .before .before .before .before .before .before .before .before .args .marks .now) (c .before .before .before .before .before .before .before .before .before .before .before .before .before .before .before .before .before .before .before .before .before .before .before .before .before .before .before .before .before .before .args .t) (c .before .before .before .before .before .before .before .before .before .before .before .before .before .before .before .before .before .before .before .before .before .before .before .before .before .before .before .before .before .before .args .g) fine room _ _ _ _ end rep is)
-    ∙ ap (verdictOf (λ i. getD (c .before .before .before .before .before .before .before .before .before .before .before .before .before .before .before .before .before .before .before .before .before .before .before .before .before .before .before .before .before .before .args .stars .now) i 0) (distanceOf (Ask (c .before .before .before .before .before .before .before .before .before .before .before .before .before .before .before .before .before .before .before .before .before .before .before .before .before .before .before .before .before .before))) (c .before .before .before .before .before .before .before .before .before .before .before .before .before .before .before .before .before .before .before .before .before .before .before .before .before .before .before .before .before .before .args .t) (c .before .before .before .before .before .before .before .before .before .before .before .before .before .before .before .before .before .before .before .before .before .before .before .before .before .before .before .before .before .before .args .g)) (Verdicts.same-entries (Ask (c .before .before .before .before .before .before .before .before .before .before .before .before .before .before .before .before .before .before .before .before .before .before .before .before .before .before .before .before .before .before)) (c .before .before .before .before .before .before .before .before .before .before .before .before .before .before .before .before .before .before .before .before .before .before .before .before .before .before .before .before .before .before .args .marks .now) (c .before .before .before .before .before .before .before .before .before .before .before .before .before .before .before .before .before .before .before .before .before .before .before .before .before .before .before .before .before .before .args .t) (c .before .before .before .before .before .before .before .before .before .before .before .before .before .before .before .before .before .before .before .before .before .before .before .before .before .before .before .before .before .before .args .g) fine room _ _ _ _ end rep is))
+    let s = c .before .before .before .before .before .before .before .before .before .before .before .before .before .before .before .before .before .before .before .before .before .before .before .before .before .before .before .before .before .before in
+    let at-larger = c .before .before .before .before .before .before .before .before .before .before .before .before .before .before .before .before .before .before .before .before .before .before .before .larger in
+    let at-refused = c .before .before .before .before .before .before .before .before .before .before .before .before .before .before .before .before .before .before .before .before .before .refused in
+    let at-enum-told = c .before .before .before .before .before .before .before .before .before .before .before .before .before .before .before .before .before .before .before .enum-told in
+    let at-smaller = c .before .before .before .before .before .before .before .before .before .before .before .before .before .before .before .before .before .before .smaller in
+    let at-list-nearest = c .before .before .before .before .before .before .before .before .before .before .before .before .before .list-nearest in
+    let at-found2 = c .before .before .before .before .before .before .found2 in
+    let fine = outcome s _ _ (at-larger .ensures) (at-refused .ensures) ∙ at-enum-told .given .1 in
+    let room = fit s _ _ (at-larger .ensures) (at-refused .ensures) (at-enum-told .given .1) .room in
+    let end = rw (at-smaller .ensures) at (at-list-nearest .ensures) in
+    let rep = at-found2 .given .0 .0 in
+    let is = at-found2 .given .1 in
+    Verdicts.verdict-given (Ask s) (s .args .marks .now) (s .args .t) (s .args .g) fine room _ _ _ _ end rep is _
+    (c .before .before .judge .ensures (distanceOf (Ask s)) (Verdicts.same-distances (Ask s) (s .args .marks .now) (s .args .t) (s .args .g) fine room _ _ _ _ end rep is)
+    ∙ ap (verdictOf (λ i. getD (s .args .stars .now) i 0) (distanceOf (Ask s)) (s .args .t) (s .args .g)) (Verdicts.same-entries (Ask s) (s .args .marks .now) (s .args .t) (s .args .g) fine room _ _ _ _ end rep is))
 
 pub verdict-spec : {M : Type 1} → statement M
 verdict-spec =

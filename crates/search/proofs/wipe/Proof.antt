@@ -1,5 +1,5 @@
 -- `search::wipe` meets its contract. Assumes nothing.
-use mathlib.Core.Path.{_≡_, refl, _∙_}
+use mathlib.Core.Path.{refl, _∙_}
 use Rattle.search.proofs.Ending
 use borrow.Author.Needs.{needs}
 use Rattle.search.proofs.wipe.Statement.{statement}
@@ -24,7 +24,11 @@ same-length-3 : tie.Need-same-length-3
 same-length-3 c = search needs
 
 returns : tie.Need-returns
-returns c = (c .before .before .before .before .before .before .before .before .before .before .clear .ensures ∙ Ending.wiped-all _ (c .before .before .before .before .before .before .before .before .before .before .before .before .before .before .before .args .marks .now) refl, (c .before .before .before .before .before .before .wipe .ensures, c .before .before .wipe2 .ensures))
+returns c =
+    let s = c .before .before .before .before .before .before .before .before .before .before .before .before .before .before .before in
+    let at-clear = c .before .before .before .before .before .before .before .before .before .before .clear in
+    let at-wipe = c .before .before .before .before .before .before .wipe in
+    (at-clear .ensures ∙ Ending.wiped-all _ (s .args .marks .now) refl, (at-wipe .ensures, c .before .before .wipe2 .ensures))
 
 pub wipe-spec : {M : Type 1} → statement M
 wipe-spec =

@@ -34,7 +34,10 @@ same-length : tie.Need-same-length
 same-length c = search needs
 
 returns : tie.Need-returns
-returns c = Answering.within-early (Ask (c .before .before .before .before .before .before .before .before .before .before .before .before .before)) _ _ _ _ _ (sym (c .before .before .before .refused .ensures) ∙ c .before .early .given .1)
+returns c =
+    let s = c .before .before .before .before .before .before .before .before .before .before .before .before .before in
+    let at-refused = c .before .before .before .refused in
+    Answering.within-early (Ask s) _ _ _ _ _ (sym (at-refused .ensures) ∙ c .before .early .given .1)
 
 enum-told : tie.Need-enum-told
 enum-told c = search needs
@@ -46,7 +49,10 @@ slice-relend-prefix-list-within : tie.Need-slice-relend-prefix-list-within
 slice-relend-prefix-list-within c = fit (c .before .before .before .before .before .before .before .before .before .before .before .before) _ (c .before .before .refused .ensures) (c .enum-told .given .1) .room
 
 slice-aggregate-list-within : tie.Need-slice-aggregate-list-within
-slice-aggregate-list-within c = sym (length-take-le _ _ (fit (c .before .before .before .before .before .before .before .before .before .before .before .before .before) _ (c .before .before .before .refused .ensures) (c .before .enum-told .given .1) .room))
+slice-aggregate-list-within c =
+    let s = c .before .before .before .before .before .before .before .before .before .before .before .before .before in
+    let at-refused = c .before .before .before .refused in
+    sym (length-take-le _ _ (fit s _ (at-refused .ensures) (c .before .enum-told .given .1) .room))
 
 slice-aggregate-list-within-2 : tie.Need-slice-aggregate-list-within-2
 slice-aggregate-list-within-2 c = search needs
@@ -54,7 +60,10 @@ slice-aggregate-list-within-2 c = search needs
 list-within-requires : tie.Need-list-within-requires
 unfolding cat
 list-within-requires c κs =
-    let f = fit (c .before .before .before .before .before .before .before .before .before .before .before .before .before .before .before .before) _ (c .before .before .before .before .before .before .refused .ensures) (c .before .before .before .before .enum-told .given .1) in
+    let s = c .before .before .before .before .before .before .before .before .before .before .before .before .before .before .before .before in
+    let at-refused = c .before .before .before .before .before .before .refused in
+    let at-enum-told = c .before .before .before .before .enum-told in
+    let f = fit s _ (at-refused .ensures) (at-enum-told .given .1) in
     (f .asked, (ltb-false _ _ (sym (any-one _ _) ∙ f .limited), (length-take-le _ _ (f .room), refl)))
 
 same-length-2 : tie.Need-same-length-2
@@ -67,7 +76,12 @@ same-length-4 : tie.Need-same-length-4
 same-length-4 c = search needs
 
 returns-2 : tie.Need-returns-2
-returns-2 c = Answering.within-whole (Ask (c .before .before .before .before .before .before .before .before .before .before .before .before .before .before .before .before .before .before .before .before .before .before .before .before)) (c .before .before .before .before .before .before .before .before .before .before .before .before .before .before .before .before .before .before .before .before .before .before .before .before .args .marks .now) _ _ (c .before .before .before .before .before .before .before .before .before .before .before .before .before .before .before .before .before .before .before .before .before .before .before .before .args .r) (sym (c .before .before .before .before .before .before .before .before .before .before .before .before .before .before .refused .ensures) ∙ c .before .before .before .before .before .before .before .before .before .before .before .before .enum-told .given .1) (fit (c .before .before .before .before .before .before .before .before .before .before .before .before .before .before .before .before .before .before .before .before .before .before .before .before) _ (c .before .before .before .before .before .before .before .before .before .before .before .before .before .before .refused .ensures) (c .before .before .before .before .before .before .before .before .before .before .before .before .enum-told .given .1) .room) (c .before .before .before .before .before .before .before .list-within .ensures)
+returns-2 c =
+    let s = c .before .before .before .before .before .before .before .before .before .before .before .before .before .before .before .before .before .before .before .before .before .before .before .before in
+    let at-refused = c .before .before .before .before .before .before .before .before .before .before .before .before .before .before .refused in
+    let at-enum-told = c .before .before .before .before .before .before .before .before .before .before .before .before .enum-told in
+    let at-list-within = c .before .before .before .before .before .before .before .list-within in
+    Answering.within-whole (Ask s) (s .args .marks .now) _ _ (s .args .r) (sym (at-refused .ensures) ∙ at-enum-told .given .1) (fit s _ (at-refused .ensures) (at-enum-told .given .1) .room) (at-list-within .ensures)
 
 pub within-spec : {M : Type 1} → statement M
 within-spec =

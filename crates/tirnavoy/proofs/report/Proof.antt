@@ -1,7 +1,7 @@
 -- `tirnavoy::report` meets its contract. Assumes nothing.
-use mathlib.Core.Path.{_≡_, sym, ap, _∙_}
+use mathlib.Core.Path.{sym, ap, _∙_}
 use borrow.Author.Needs.{needs}
-use Rattle.tirnavoy.specs.Outs.{searchOuts, searchRefused}
+use Rattle.tirnavoy.specs.Outs.{searchOuts}
 use Rattle.tirnavoy.proofs.report.Statement.{statement}
 use Rattle.tirnavoy.proofs.report.Tie as tie
 

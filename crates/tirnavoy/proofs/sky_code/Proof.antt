@@ -1,5 +1,5 @@
 -- `tirnavoy::sky_code` meets its contract. Assumes nothing.
-use mathlib.Core.Path.{_≡_, sym, ap, _∙_}
+use mathlib.Core.Path.{sym, ap, _∙_}
 use borrow.Author.Needs.{needs}
 use Rattle.tirnavoy.specs.Outs.{skyOuts}
 use Rattle.tirnavoy.proofs.sky_code.Statement.{statement}

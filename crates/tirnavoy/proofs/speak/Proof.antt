@@ -1,5 +1,5 @@
 -- `tirnavoy::speak` meets its contract. Assumes nothing.
-use mathlib.Core.Path.{_≡_, sym, ap, _∙_}
+use mathlib.Core.Path.{sym, ap}
 use borrow.Author.Needs.{needs}
 use Rattle.tirnavoy.specs.Outs.{spoken}
 use Rattle.tirnavoy.proofs.speak.Statement.{statement}

@@ -1,5 +1,5 @@
 -- `tirnavoy::tirnavoy_blackboard` meets its contract. Assumes nothing.
-use mathlib.Core.Path.{_≡_, sym, ap, _∙_}
+use mathlib.Core.Path.{sym, ap, _∙_}
 use borrow.Author.Needs.{needs}
 use Rattle.tirnavoy.specs.Outs.{blackboardOuts}
 use Rattle.tirnavoy.proofs.tirnavoy_blackboard.Statement.{statement}

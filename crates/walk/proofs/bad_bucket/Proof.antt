@@ -1,10 +1,9 @@
 -- `walk::bad_bucket` meets its contract: the loop passes the places whose ids are not bad. Assumes nothing.
-use mathlib.Core.Path.{_≡_, sym, ap, _∙_}
-use mathlib.Core.Bool.{Bool, true, false}
-use Prim.Native.Nat.{ℕ, _+_, _-_, _*_, _≤_, _<_}
+use mathlib.Core.Path.{sym, _∙_}
+use Prim.Native.Nat.{_+_, _-_, _*_, _≤_}
 use native.Mathlib.Omega.{arith}
 use lib.ListN.{length}
-use Rattle.scope.specs.Tables.{Index, index, n, start, idAt, substringOf, badId, bad}
+use Rattle.scope.specs.Tables.{Index, index, n, start, idAt, substringOf}
 use Rattle.scope.proofs.Shapes.{facts, few-buckets}
 use Rattle.walk.proofs.Buckets
 use borrow.Author.Needs.{needs}
@@ -30,22 +29,32 @@ add-start : tie.Need-add-start Inv-loop μ-loop
 add-start c = omega (arith, few-buckets _ (facts _ (c .before .before .before .before .before .pre .0 .known)) (c .before .before .before .before .before .args .z))
 
 start-requires-2 : tie.Need-start-requires-2 Inv-loop μ-loop
-start-requires-2 c κs = ((c .before .before .before .before .before .pre .0 .known, c .before .before .before .before .before .pre .1 .0, omega arith, c .before .before .before .before .before .pre .0 .starts))
+start-requires-2 c κs =
+    let s = c .before .before .before .before .before in
+    ((s .pre .0 .known, s .pre .1 .0, omega arith, s .pre .0 .starts))
 
 returns : tie.Need-returns Inv-loop μ-loop
 unfolding start
-returns c = sym (Buckets.bad-order (X (c .before .before .before .before .before .before .before)) (c .before .before .before .before .before .before .before .args .z) (c .before .before .before .before .before .before .before .args .v) (let a = c .before .before .start .ensures in let e = c .before .start2 .ensures in omega arith))
+returns c =
+    let s = c .before .before .before .before .before .before .before in
+    sym (Buckets.bad-order (X s) (s .args .z) (s .args .v) (let a = c .before .before .start .ensures in let e = c .before .start2 .ensures in omega arith))
 
 returns-2 : tie.Need-returns-2 Inv-loop μ-loop
 unfolding start
-returns-2 c = sym (Buckets.bad-over (X (c .before .before .before .before .before .before .before .before)) (c .before .before .before .before .before .before .before .before .args .z) (c .before .before .before .before .before .before .before .before .args .v) (let a = c .before .before .before .start .ensures in let e = c .before .before .start2 .ensures in omega arith) (let e = c .before .before .start2 .ensures in omega arith))
+returns-2 c =
+    let s = c .before .before .before .before .before .before .before .before in
+    let at-start = c .before .before .before .start in
+    sym (Buckets.bad-over (X s) (s .args .z) (s .args .v) (let a = at-start .ensures in let e = c .before .before .start2 .ensures in omega arith) (let e = c .before .before .start2 .ensures in omega arith))
 
 mul-before : tie.Need-mul-before Inv-loop μ-loop
 mul-before c = omega (arith, room (c .before .before .before .before .before .before .before .before))
 
 loop-holds : tie.Need-loop-holds Inv-loop μ-loop
 unfolding start
-loop-holds c = rw (c .before .before .before .start .ensures) (Buckets.passed-none (X (c .before .before .before .before .before .before .before .before)) (c .before .before .before .before .before .before .before .before .args .z) (c .before .before .before .before .before .before .before .before .args .v) (let a = c .before .before .before .start .ensures in let e = c .before .before .start2 .ensures in omega arith))
+loop-holds c =
+    let s = c .before .before .before .before .before .before .before .before in
+    let at-start = c .before .before .before .start in
+    rw (at-start .ensures) (Buckets.passed-none (X s) (s .args .z) (s .args .v) (let a = at-start .ensures in let e = c .before .before .start2 .ensures in omega arith))
 
 add-i : tie.Need-add-i Inv-loop μ-loop
 add-i c = omega (arith, room (c .before .before .before .before .before .before .before .before .before .before))
@@ -57,22 +66,30 @@ shared-slice-read-i : tie.Need-shared-slice-read-i Inv-loop μ-loop
 shared-slice-read-i c = omega (arith, room (c .before .before .before .before .before .before .before .before .before .before .before))
 
 cast-i : tie.Need-cast-i Inv-loop μ-loop
-cast-i c = omega (arith, c .shared-slice-known5 .given (c .before .before .before .before .before .before .before .before .before .before .before .args .z * length (c .before .before .before .before .before .before .before .before .before .before .before .args .stars .now) + c .before .before .loop .p))
+cast-i c =
+    let s = c .before .before .before .before .before .before .before .before .before .before .before in
+    omega (arith, c .shared-slice-known5 .given (s .args .z * length (s .args .stars .now) + c .before .before .loop .p))
 
 bad-id-requires : tie.Need-bad-id-requires Inv-loop μ-loop
-bad-id-requires c κs = (c .before .before .before .before .before .before .before .before .before .before .before .pre .0 .known, c .before .before .before .before .before .before .before .before .before .before .before .pre .1 .0, c .before .before .before .before .before .before .before .before .before .before .before .pre .0 .codes)
+bad-id-requires c κs =
+    let s = c .before .before .before .before .before .before .before .before .before .before .before in
+    (s .pre .0 .known, s .pre .1 .0, s .pre .0 .codes)
 
 returns-3 : tie.Need-returns-3 Inv-loop μ-loop
 unfolding start idAt substringOf
 returns-3 c =
-    let x = X (c .before .before .before .before .before .before .before .before .before .before .before .before .before) in
-    let i = c .before .before .before .before .loop .inv in
-    let test : badId x (c .before .before .before .before .before .before .before .before .before .before .before .before .before .args .z) (c .before .before .before .before .before .before .before .before .before .before .before .before .before .args .v) (c .before .before .before .before .loop .p) ≡ true =
-    sym (Buckets.bad-id-is x (c .before .before .before .before .before .before .before .before .before .before .before .before .before .args .z) (c .before .before .before .before .before .before .before .before .before .before .before .before .before .args .v) (c .before .before .before .before .loop .p)) ∙ rw (← i .low-is) (sym (c .before .bad-id .ensures) ∙ c .if3 .taken) in
-    sym (Buckets.bad-here x _ _ _ _ i (let e = c .before .before .before .before .before .before .before .start2 .ensures in omega arith) test)
+    let s = c .before .before .before .before .before .before .before .before .before .before .before .before .before in
+    let at-start2 = c .before .before .before .before .before .before .before .start2 in
+    let at-loop = c .before .before .before .before .loop in
+    let i = at-loop .inv in
+    let test = Buckets.test-is (X s) (s .args .z) (s .args .v) (at-loop .p) _ i _ (c .before .bad-id .ensures) in
+    sym (Buckets.bad-here (X s) _ _ _ _ i (let e = at-start2 .ensures in omega arith) (test ∙ c .if3 .taken))
 
 add-least : tie.Need-add-least Inv-loop μ-loop
-add-least c = omega (arith, c .before .before .shared-slice-known5 .given (c .before .before .before .before .before .before .before .before .before .before .before .before .before .args .z * length (c .before .before .before .before .before .before .before .before .before .before .before .before .before .args .stars .now) + c .before .before .before .before .loop .p))
+add-least c =
+    let s = c .before .before .before .before .before .before .before .before .before .before .before .before .before in
+    let at-loop = c .before .before .before .before .loop in
+    omega (arith, c .before .before .shared-slice-known5 .given (s .args .z * length (s .args .stars .now) + at-loop .p))
 
 add-p : tie.Need-add-p Inv-loop μ-loop
 add-p c = search needs
@@ -83,15 +100,19 @@ loop-less c = search needs
 loop-again : tie.Need-loop-again Inv-loop μ-loop
 unfolding start idAt substringOf
 loop-again c =
-    let x = X (c .before .before .before .before .before .before .before .before .before .before .before .before .before) in
-    let i = c .before .before .before .before .loop .inv in
-    let test : badId x (c .before .before .before .before .before .before .before .before .before .before .before .before .before .args .z) (c .before .before .before .before .before .before .before .before .before .before .before .before .before .args .v) (c .before .before .before .before .loop .p) ≡ false =
-    sym (Buckets.bad-id-is x (c .before .before .before .before .before .before .before .before .before .before .before .before .before .args .z) (c .before .before .before .before .before .before .before .before .before .before .before .before .before .args .v) (c .before .before .before .before .loop .p)) ∙ rw (← i .low-is) (sym (c .before .bad-id .ensures) ∙ c .if3 .left) in
-    Buckets.passed-more x _ _ _ _ i (let e = c .before .before .before .before .before .before .before .start2 .ensures in omega arith) test
+    let s = c .before .before .before .before .before .before .before .before .before .before .before .before .before in
+    let at-start2 = c .before .before .before .before .before .before .before .start2 in
+    let at-loop = c .before .before .before .before .loop in
+    let i = at-loop .inv in
+    let test = Buckets.test-is (X s) (s .args .z) (s .args .v) (at-loop .p) _ i _ (c .before .bad-id .ensures) in
+    Buckets.passed-more (X s) _ _ _ _ i (let e = at-start2 .ensures in omega arith) (test ∙ c .if3 .left)
 
 returns-4 : tie.Need-returns-4 Inv-loop μ-loop
 unfolding start
-returns-4 c = sym (Buckets.bad-none (X (c .before .before .before .before .before .before .before .before .before .before)) _ _ _ _ (c .before .loop .inv) (let e = c .before .before .before .before .start2 .ensures in omega arith) (let e = c .before .before .before .before .start2 .ensures in omega arith))
+returns-4 c =
+    let s = c .before .before .before .before .before .before .before .before .before .before in
+    let at-start2 = c .before .before .before .before .start2 in
+    sym (Buckets.bad-none (X s) _ _ _ _ (c .before .loop .inv) (let e = at-start2 .ensures in omega arith) (let e = at-start2 .ensures in omega arith))
 
 pub bad-bucket-spec : {M : Type 1} → statement M
 bad-bucket-spec =

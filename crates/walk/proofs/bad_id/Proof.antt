@@ -1,5 +1,4 @@
 -- `walk::bad_id` meets its contract. Assumes nothing.
-use mathlib.Core.Path.{_≡_}
 use native.Mathlib.Omega.{arith}
 use borrow.Author.Tests.{le-leb, lt-leb, lt-ltb, le-ltb}
 use Rattle.scope.proofs.Shapes.{facts, in-code}
@@ -25,18 +24,24 @@ cast-entry-substring c = search needs
 
 entry-substring-requires : tie.Need-entry-substring-requires
 entry-substring-requires c κs =
-    let f = facts _ (c .before .before .before .before .before .before .pre .0) in
-    let z = c .before .before .before .before .before .before .args .z in
+    let s = c .before .before .before .before .before .before in
+    let at-if1 = c .before .before .before .before .if1 in
+    let f = facts _ (s .pre .0) in
+    let z = s .args .z in
     let from = c .before .before .first-bit .ensures in
     let bits = c .before .bits .ensures in
     let some = f .some-bits z in
     let few = f .few-bits z in
-    let inside = in-code _ f z (c .before .before .before .before .before .before .pre .1) in
-    let row = in-parts (c .before .before .before .before .before .before .args .i) (c .before .before .before .before .before .before .args .n) (c .before .before .before .before .before .before .args .shape .w) (c .before .before .before .before .if1 .left) in
+    let inside = in-code _ f z (s .pre .1) in
+    let row = in-parts (s .args .i) (s .args .n) (s .args .shape .w) (at-if1 .left) in
     (omega arith, omega arith, f .few-words, omega arith, omega arith)
 
 returns-3 : tie.Need-returns-3
-returns-3 c = rw (lt-leb _ _ (c .before .before .before .before .before .if1 .left), le-ltb _ _ (c .before .before .before .before .if2 .left), c .entry-substring .ensures, c .before .before .before .first-bit .ensures, c .before .before .bits .ensures)
+returns-3 c =
+    let at-if1 = c .before .before .before .before .before .if1 in
+    let at-if2 = c .before .before .before .before .if2 in
+    let at-first-bit = c .before .before .before .first-bit in
+    rw (lt-leb _ _ (at-if1 .left), le-ltb _ _ (at-if2 .left), c .entry-substring .ensures, at-first-bit .ensures, c .before .before .bits .ensures)
 
 pub bad-id-spec : {M : Type 1} → statement M
 bad-id-spec =

@@ -1,5 +1,4 @@
 -- `walk::nearest` meets its contract. Assumes nothing.
-use mathlib.Core.Path.{_≡_}
 use native.Mathlib.Omega.{arith}
 use Rattle.scope.specs.Walk.{Question}
 use Rattle.scope.proofs.Shapes.{facts}
@@ -16,7 +15,9 @@ mul-until : tie.Need-mul-until
 mul-until c = let f = facts _ (c .before .before .before .before .before .before .before .before .pre .0 .lent .known) .few-words in omega arith
 
 until-requires : tie.Need-until-requires
-until-requires c κs = (c .before .before .before .before .before .before .before .before .before .before .pre .0, ((let f = facts _ (c .before .before .before .before .before .before .before .before .before .before .pre .0 .lent .known) .few-words in omega arith), c .before .before .before .before .before .before .before .before .before .before .pre .1 .1))
+until-requires c κs =
+    let s = c .before .before .before .before .before .before .before .before .before .before in
+    (s .pre .0, ((let f = facts _ (s .pre .0 .lent .known) .few-words in omega arith), s .pre .1 .1))
 
 same-length : tie.Need-same-length
 same-length c = search needs
@@ -25,7 +26,10 @@ same-length-2 : tie.Need-same-length-2
 same-length-2 c = search needs
 
 returns : tie.Need-returns
-returns c = rw (Stepping.nearest-steps (Ask (c .before .before .before .before .before .before .before .before .before .before .before .before .before .before .before)) (c .before .before .before .before .before .before .before .before .before .before .before .before .before .before .before .args .k) (c .before .before .before .before .before .before .before .before .before .before .before .before .before .before .before .pre .1 .0)) at (c .before .before .before .before .until .ensures)
+returns c =
+    let s = c .before .before .before .before .before .before .before .before .before .before .before .before .before .before .before in
+    let at-until = c .before .before .before .before .until in
+    rw (Stepping.nearest-steps (Ask s) (s .args .k) (s .pre .1 .0)) at (at-until .ensures)
 
 pub nearest-spec : {M : Type 1} → statement M
 nearest-spec =

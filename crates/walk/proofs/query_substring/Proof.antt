@@ -1,5 +1,4 @@
 -- `walk::query_substring` meets its contract. Assumes nothing.
-use mathlib.Core.Path.{_≡_}
 use native.Mathlib.Omega.{arith}
 use Rattle.scope.proofs.Shapes.{facts, in-code}
 use borrow.Author.Needs.{needs}

@@ -1,5 +1,4 @@
 -- `walk::start` meets its contract. Assumes nothing.
-use mathlib.Core.Path.{_≡_}
 use Prim.Native.Nat.{_+_}
 use native.Mathlib.Omega.{arith}
 use Rattle.scope.proofs.Shapes.{facts, in-starts}

@@ -1,5 +1,4 @@
 -- `walk::within` meets its contract. Assumes nothing.
-use mathlib.Core.Path.{_≡_}
 use native.Mathlib.Omega.{arith}
 use borrow.Author.Tests.{eq-eqb, ne-eqb}
 use Rattle.scope.specs.Walk.{Question}
@@ -19,10 +18,14 @@ start-requires c κs = search needs
 
 returns : tie.Need-returns
 unfolding withinSteps
-returns c = rw (eq-eqb _ _ (c .before .if1 .taken)) (Stepping.walked-none (Ask (c .before .before .before .before .before .before .before .before .before)) _ _ _ (c .start .ensures) (c .before .before .before .before .before .before .before .before .before .pre .1 .1))
+returns c =
+    let s = c .before .before .before .before .before .before .before .before .before in
+    rw (eq-eqb _ _ (c .before .if1 .taken)) (Stepping.walked-none (Ask s) _ _ _ (c .start .ensures) (s .pre .1 .1))
 
 until-requires : tie.Need-until-requires
-until-requires c κs = (c .before .before .before .before .before .before .before .before .before .before .pre .0, ((let f = facts _ (c .before .before .before .before .before .before .before .before .before .before .pre .0 .lent .known) .few-words in let r = c .before .before .before .before .before .before .before .before .before .before .pre .1 .0 in omega arith), c .before .before .before .before .before .before .before .before .before .before .pre .1 .1))
+until-requires c κs =
+    let s = c .before .before .before .before .before .before .before .before .before .before in
+    (s .pre .0, ((let f = facts _ (s .pre .0 .lent .known) .few-words in let r = s .pre .1 .0 in omega arith), s .pre .1 .1))
 
 same-length : tie.Need-same-length
 same-length c = search needs
@@ -32,7 +35,11 @@ same-length-2 c = search needs
 
 returns-2 : tie.Need-returns-2
 unfolding withinSteps
-returns-2 c = rw (ne-eqb _ _ (c .before .before .before .before .before .before .before .if1 .left)) (rw (Stepping.all-steps (Ask (c .before .before .before .before .before .before .before .before .before .before .before .before .before .before .before)) 65537 (c .before .before .before .before .before .before .before .before .before .before .before .before .before .before .before .args .r) (let f = c .before .before .before .before .before .before .before .before .before .before .before .before .before .before .before .pre .0 .lent .few in omega arith)) at (c .before .before .before .before .until .ensures))
+returns-2 c =
+    let s = c .before .before .before .before .before .before .before .before .before .before .before .before .before .before .before in
+    let at-if1 = c .before .before .before .before .before .before .before .if1 in
+    let at-until = c .before .before .before .before .until in
+    rw (ne-eqb _ _ (at-if1 .left)) (rw (Stepping.all-steps (Ask s) 65537 (s .args .r) (let f = s .pre .0 .lent .few in omega arith)) at (at-until .ensures))
 
 pub within-spec : {M : Type 1} → statement M
 within-spec =

@@ -1,5 +1,5 @@
 -- `walk::Walk::open` meets its contract. Assumes nothing.
-use mathlib.Core.Path.{_≡_, refl, sym, _∙_}
+use mathlib.Core.Path.{refl, sym, _∙_}
 use native.Mathlib.Omega.{arith}
 use Rattle.scope.specs.Walk.{Question}
 use Rattle.scope.proofs.Shapes.{facts, few-buckets}
@@ -13,24 +13,35 @@ abbrev Ask : tie.Start → Question
 Ask c = asks (c .args .shape) (c .args .stars .now) (c .args .codes .now) (c .args .starts .now) (c .args .ids .now) (c .args .query .now)
 
 bad-bucket-requires : tie.Need-bad-bucket-requires
-bad-bucket-requires c κs = (c .before .before .before .before .before .before .before .before .before .pre .0 .lent, (c .before .before .before .before .before .before .before .before .before .pre .1 .0 .0, c .before .before .before .before .before .before .before .before .before .pre .1 .0 .1))
+bad-bucket-requires c κs =
+    let s = c .before .before .before .before .before .before .before .before .before in
+    (s .pre .0 .lent, (s .pre .1 .0 .0, s .pre .1 .0 .1))
 
 cast-table : tie.Need-cast-table
-cast-table c = let f = facts _ (c .before .before .before .before .before .before .before .before .before .before .before .pre .0 .lent .known) .few-tables in let z = c .before .before .before .before .before .before .before .before .before .before .before .pre .1 .0 .0 in omega arith
+cast-table c =
+    let s = c .before .before .before .before .before .before .before .before .before .before .before in
+    let f = facts _ (s .pre .0 .lent .known) .few-tables in let z = s .pre .1 .0 .0 in omega arith
 
 cast-bucket : tie.Need-cast-bucket
-cast-bucket c = let v = c .before .before .before .before .before .before .before .before .before .before .before .pre .1 .0 .1 in omega (arith, few-buckets _ (facts _ (c .before .before .before .before .before .before .before .before .before .before .before .pre .0 .lent .known)) (c .before .before .before .before .before .before .before .before .before .before .before .args .z))
+cast-bucket c =
+    let s = c .before .before .before .before .before .before .before .before .before .before .before in
+    let v = s .pre .1 .0 .1 in omega (arith, few-buckets _ (facts _ (s .pre .0 .lent .known)) (s .args .z))
 
 returns : tie.Need-returns
-returns c = Opening.opening-refused (Ask (c .before .before .before .before .before .before .before .before .before .before .before)) _ _ _ _ _ _ _ (sym (c .before .bad-bucket .ensures) ∙ c .if1 .taken) refl
+returns c =
+    let s = c .before .before .before .before .before .before .before .before .before .before .before in
+    Opening.opening-refused (Ask s) _ _ _ _ _ _ _ (sym (c .before .bad-bucket .ensures) ∙ c .if1 .taken) refl
 
 add-t20 : tie.Need-add-t20
 add-t20 c = search needs
 
 test-all-requires : tie.Need-test-all-requires
 test-all-requires c κs =
-    let n = c .before .before .before .before .before .before .before .before .before .before .before .before .before .before .pre .1 .1 in
-    (c .before .before .before .before .before .before .before .before .before .before .before .before .before .before .pre .0, ((c .before .before .before .before .before .before .before .before .before .before .before .before .before .before .pre .1 .0 .0, c .before .before .before .before .before .before .before .before .before .before .before .before .before .before .pre .1 .0 .1), (sym (c .before .before .before .before .bad-bucket .ensures) ∙ c .before .before .before .if1 .left, record { long = n .long; tally-is = n .tally-is; near-is = n .near-is; tested-is = n .tested-is })))
+    let s = c .before .before .before .before .before .before .before .before .before .before .before .before .before .before in
+    let at-bad-bucket = c .before .before .before .before .bad-bucket in
+    let at-if1 = c .before .before .before .if1 in
+    let n = s .pre .1 .1 in
+    (s .pre .0, ((s .pre .1 .0 .0, s .pre .1 .0 .1), (sym (at-bad-bucket .ensures) ∙ at-if1 .left, record { long = n .long; tally-is = n .tally-is; near-is = n .near-is; tested-is = n .tested-is })))
 
 same-length : tie.Need-same-length
 same-length c = search needs
@@ -39,7 +50,12 @@ same-length-2 : tie.Need-same-length-2
 same-length-2 c = search needs
 
 returns-2 : tie.Need-returns-2
-returns-2 c = Opening.opening-one (Ask (c .before .before .before .before .before .before .before .before .before .before .before .before .before .before .before .before .before .before .before)) _ _ _ _ _ _ _ _ (sym (c .before .before .before .before .before .before .before .before .before .bad-bucket .ensures) ∙ c .before .before .before .before .before .before .before .before .if1 .left) refl refl refl (c .before .before .before .before .test-all .ensures)
+returns-2 c =
+    let s = c .before .before .before .before .before .before .before .before .before .before .before .before .before .before .before .before .before .before .before in
+    let at-bad-bucket = c .before .before .before .before .before .before .before .before .before .bad-bucket in
+    let at-if1 = c .before .before .before .before .before .before .before .before .if1 in
+    let at-test-all = c .before .before .before .before .test-all in
+    Opening.opening-one (Ask s) _ _ _ _ _ _ _ _ (sym (at-bad-bucket .ensures) ∙ at-if1 .left) refl refl refl (at-test-all .ensures)
 
 pub open-spec : {M : Type 1} → statement M
 open-spec =

@@ -1,8 +1,8 @@
 -- `walk::Walk::open_all` meets its contract: the loop opens the buckets of the masks that it passes. Assumes nothing.
-use mathlib.Core.Path.{_≡_, refl, sym, _∙_}
+use mathlib.Core.Path.{_≡_, refl}
 use mathlib.Core.Bool.{cond}
 use mathlib.Core.List.{List, [], _∷_}
-use Prim.Native.Nat.{ℕ, _+_, _-_, _≤_, _<_}
+use Prim.Native.Nat.{ℕ, _+_, _-_, _≤_}
 use native.Mathlib.Numerals.{add-one}
 use native.Mathlib.Omega.{arith}
 use lib.Bits.{bitXor}
@@ -49,29 +49,36 @@ abbrev Ask : tie.Start Inv-loop μ-loop → Question
 Ask c = asks (c .args .shape) (c .args .stars .now) (c .args .codes .now) (c .args .starts .now) (c .args .ids .now) (c .args .query .now)
 
 query-substring-requires : tie.Need-query-substring-requires Inv-loop μ-loop
-query-substring-requires c κs = (c .before .before .before .before .before .before .before .pre .0 .lent .known, c .before .before .before .before .before .before .before .pre .1 .0 .0, c .before .before .before .before .before .before .before .pre .0 .query)
+query-substring-requires c κs =
+    let s = c .before .before .before .before .before .before .before in
+    (s .pre .0 .lent .known, s .pre .1 .0 .0, s .pre .0 .query)
 
 buckets-requires : tie.Need-buckets-requires Inv-loop μ-loop
 buckets-requires c κs = search needs
 
 loop-holds : tie.Need-loop-holds Inv-loop μ-loop
 loop-holds c =
+    let s = c .before .before .before .before .before .before .before .before .before in
     record {
       upto = omega arith;
-      clear = c .before .before .before .before .before .before .before .before .before .pre .1 .0 .1;
-      opened = rw opening.around-none (opening.opening-none (Ask (c .before .before .before .before .before .before .before .before .before)) _ _ _ (c .before .before .before .before .before .before .before .before .before .pre .1 .0 .1) (c .before .before .before .before .before .before .before .before .before .pre .1 .1));
+      clear = s .pre .1 .0 .1;
+      opened = rw opening.around-none (opening.opening-none (Ask s) _ _ _ (s .pre .1 .0 .1) (s .pre .1 .1));
       same-marks = refl;
       same-tally = refl;
     }
 
 open-mask-requires : tie.Need-open-mask-requires Inv-loop μ-loop
 open-mask-requires c κs =
-    let i = c .before .before .before .loop .inv in
-    let b = c .before .before .before .before .before .before .before .before .before .before .before .before .before .pre .1 .0 .2 in
-    let e = c .before .before .before .before .buckets .ensures in (
-      c .before .before .before .before .before .before .before .before .before .before .before .before .before .pre .0,
+    let s = c .before .before .before .before .before .before .before .before .before .before .before .before .before in
+    let at-query-substring = c .before .before .before .before .before .query-substring in
+    let at-buckets = c .before .before .before .before .buckets in
+    let at-loop = c .before .before .before .loop in
+    let i = at-loop .inv in
+    let b = s .pre .1 .0 .2 in
+    let e = at-buckets .ensures in (
+      s .pre .0,
       (
-        (c .before .before .before .before .before .before .before .before .before .before .before .before .before .pre .1 .0 .0, rw (c .before .before .before .before .before .query-substring .ensures) (substring-lt _ _ _), omega arith, i .clear, omega (arith, few _ _ _ _ _ _ _ _ _ _ _ _ i, few-buckets _ (facts _ (c .before .before .before .before .before .before .before .before .before .before .before .before .before .pre .0 .lent .known)) (c .before .before .before .before .before .before .before .before .before .before .before .before .before .args .z))),
+        (s .pre .1 .0 .0, rw (at-query-substring .ensures) (substring-lt _ _ _), omega arith, i .clear, omega (arith, few _ _ _ _ _ _ _ _ _ _ _ _ i, few-buckets _ (facts _ (s .pre .0 .lent .known)) (s .args .z))),
         i .opened .clear (i .clear) .counted,
       ),
     )
@@ -87,8 +94,15 @@ same-length-2 c = search needs
 
 returns : tie.Need-returns Inv-loop μ-loop
 returns c =
-    rw (← c .before .before .before .before .before .before .before .before .before .before .before .before .query-substring .ensures)
-    (opening.around-bad (c .before .before .before .before .before .before .before .before .before .before .before .before .before .before .before .before .before .before .before .before .args .z) (c .before .before .before .before .before .before .before .before .before .before .before .before .before .before .before .before .before .before .before .before .args .r) (c .before .before .before .before .before .before .before .before .before .before .before .before .query-substring .result) (Ask (c .before .before .before .before .before .before .before .before .before .before .before .before .before .before .before .before .before .before .before .before)) _ _ _ _ _ _ _ _ (let e = c .before .before .before .before .before .before .before .before .before .before .before .buckets .ensures in omega arith) (next _ _ _ _ _ _ _ _ _ _ _ _ _ _ _ (c .before .before .before .before .before .before .before .before .before .before .loop .inv) (c .before .before .before .before .before .before .open-mask .ensures)) (c .enum-told .given .1))
+    let s = c .before .before .before .before .before .before .before .before .before .before .before .before .before .before .before .before .before .before .before .before in
+    let at-query-substring = c .before .before .before .before .before .before .before .before .before .before .before .before .query-substring in
+    let at-buckets = c .before .before .before .before .before .before .before .before .before .before .before .buckets in
+    let at-loop = c .before .before .before .before .before .before .before .before .before .before .loop in
+    let at-loop-test = c .before .before .before .before .before .before .before .before .before .loop-test in
+    let at-open-mask = c .before .before .before .before .before .before .open-mask in
+    rw (← at-query-substring .ensures)
+    (opening.around-bad (s .args .z) (s .args .r) (at-query-substring .result) (Ask s) _ _ _ _ _ _ _ _ (let e = at-buckets .ensures in omega (arith, at-loop-test .taken))
+    (next _ _ _ _ _ _ _ _ _ _ _ _ _ _ _ (at-loop .inv) (at-open-mask .ensures)) (c .enum-told .given .1))
 
 enum-told-2 : tie.Need-enum-told-2 Inv-loop μ-loop
 enum-told-2 c = search needs
@@ -118,9 +132,11 @@ same-length-4 c = c .before .loop .inv .same-tally
 
 returns-2 : tie.Need-returns-2 Inv-loop μ-loop
 returns-2 c =
+    let s = c .before .before .before .before .before .before .before .before .before .before .before in
+    let at-query-substring = c .before .before .before .query-substring in
     let i = c .before .loop .inv in
-    let all : c .before .loop .mask ≡ size (c .before .before .before .before .before .before .before .before .before .before .before .args .shape) (c .before .before .before .before .before .before .before .before .before .before .before .args .z) = let e = c .before .before .buckets .ensures in let l = i .upto in omega arith in
-    rw (← c .before .before .before .query-substring .ensures, ← all) (i .opened)
+    let all : c .before .loop .mask ≡ size (s .args .shape) (s .args .z) = let e = c .before .before .buckets .ensures in let l = i .upto in omega arith in
+    rw (← at-query-substring .ensures, ← all) (i .opened)
 
 pub open-all-spec : {M : Type 1} → statement M
 open-all-spec =

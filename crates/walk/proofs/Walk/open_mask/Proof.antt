@@ -1,5 +1,4 @@
 -- `walk::Walk::open_mask` meets its contract. Assumes nothing.
-use mathlib.Core.Path.{_≡_}
 use Prim.Native.Nat.{_<_}
 use lib.Bits.{bitXor, xor-lt}
 use borrow.Author.Tests.{eq-eqb, ne-eqb}
@@ -19,10 +18,14 @@ inside : (c : tie.Start) → bitXor (c .args .sub) (c .args .mask) < size (c .ar
 inside c = xor-lt (len (c .args .shape) (c .args .z)) _ _ (c .pre .1 .0 .1) (c .pre .1 .0 .2)
 
 returns : tie.Need-returns
-returns c = rw (ne-eqb _ _ (c .if1 .taken)) (Opening.opening-none (Ask (c .before .before .before .before .before .before .before .before)) _ _ _ (c .before .before .before .before .before .before .before .before .pre .1 .0 .3) (c .before .before .before .before .before .before .before .before .pre .1 .1))
+returns c =
+    let s = c .before .before .before .before .before .before .before .before in
+    rw (ne-eqb _ _ (c .if1 .taken)) (Opening.opening-none (Ask s) _ _ _ (s .pre .1 .0 .3) (s .pre .1 .1))
 
 open-requires : tie.Need-open-requires
-open-requires c κs = (c .before .before .before .before .before .before .before .before .before .before .pre .0, ((c .before .before .before .before .before .before .before .before .before .before .pre .1 .0 .0, inside (c .before .before .before .before .before .before .before .before .before .before), c .before .before .before .before .before .before .before .before .before .before .pre .1 .0 .3, c .before .before .before .before .before .before .before .before .before .before .pre .1 .0 .4), c .before .before .before .before .before .before .before .before .before .before .pre .1 .1))
+open-requires c κs =
+    let s = c .before .before .before .before .before .before .before .before .before .before in
+    (s .pre .0, ((s .pre .1 .0 .0, inside s, s .pre .1 .0 .3, s .pre .1 .0 .4), s .pre .1 .1))
 
 same-length : tie.Need-same-length
 same-length c = search needs

@@ -1,19 +1,18 @@
 -- `walk::Walk::step` meets its contract. Assumes nothing.
-use mathlib.Core.Path.{_≡_, refl, sym, ap, _∙_}
+use mathlib.Core.Path.{_≡_, refl}
 use mathlib.Core.Bool.{false}
 use mathlib.Core.List.{List}
-use Prim.Native.Nat.{ℕ, _+_, _*_, _/_, _%_, _≤_, _<_}
+use Prim.Native.Nat.{ℕ, _+_, _/_, _%_, _≤_, _<_}
 use native.Mathlib.Nat.{mod-lt, div-le-self}
 use native.Mathlib.Omega.{arith}
 use lib.ListN.{length, getD}
 use Rattle.scope.specs.Shape.{m}
-use Rattle.scope.specs.Tables.{n}
 use Rattle.scope.specs.Walk.{Question, distanceOf, opens}
 use Rattle.scope.proofs.Shapes.{facts}
 use Rattle.scope.proofs.Walking.{opened-few}
 use Rattle.walk.specs.declared.Met.the-variants.{Clear}
 use Rattle.walk.specs.declared.Walk.{Walk}
-use Rattle.walk.specs.Steps.{asks, Asked, Counted, Going}
+use Rattle.walk.specs.Steps.{asks, Asked, Going}
 use Rattle.walk.proofs.Testing
 use Rattle.walk.proofs.Stepping
 use borrow.Author.Needs.{needs}
@@ -66,7 +65,9 @@ div-r : tie.Need-div-r
 div-r c = rw (c .before .tables .ensures) (at (c .before .before .before .before .before .before .before .before .before) .some)
 
 cast-r : tie.Need-cast-r
-cast-r c = let l = c .before .before .before .before .before .before .before .before .before .pre .1 .0 in rw (c .before .tables .ensures) (omega (arith, at (c .before .before .before .before .before .before .before .before .before) .radius))
+cast-r c =
+    let s = c .before .before .before .before .before .before .before .before .before in
+    let l = s .pre .1 .0 in rw (c .before .tables .ensures) (omega (arith, at s .radius))
 
 add-t18 : tie.Need-add-t18
 add-t18 c = search needs
@@ -82,11 +83,13 @@ add-t21 c = omega (arith, at (c .before .before .before .before .before .before 
 
 open-all-requires : tie.Need-open-all-requires
 open-all-requires c κs =
-    let r = at (c .before .before .before .before .before .before .before .before .before .before .before .before .before .before .before .before) in (
-      c .before .before .before .before .before .before .before .before .before .before .before .before .before .before .before .before .pre .0,
+    let s = c .before .before .before .before .before .before .before .before .before .before .before .before .before .before .before .before in
+    let at-tables = c .before .before .before .before .before .before .before .before .tables in
+    let r = at s in (
+      s .pre .0,
       (
-        (rw (c .before .before .before .before .before .before .before .before .tables .ensures) (r .table), refl, r .buckets),
-        Stepping.counted-reach (distanceOf (Ask (c .before .before .before .before .before .before .before .before .before .before .before .before .before .before .before .before))) _ (c .before .before .before .before .before .before .before .before .before .before .before .before .before .before .before .before .args .self) _ _ _ (c .before .before .before .before .before .before .before .before .before .before .before .before .before .before .before .before .pre .1 .0) refl refl refl (c .before .before .before .before .before .before .before .before .before .before .before .before .before .before .before .before .pre .1 .1 .counted),
+        (rw (at-tables .ensures) (r .table), refl, r .buckets),
+        Stepping.counted-reach (distanceOf (Ask s)) _ (s .args .self) _ _ _ (s .pre .1 .0) refl refl refl (s .pre .1 .1 .counted),
       ),
     )
 
@@ -98,7 +101,11 @@ same-length-2 c = search needs
 
 returns : tie.Need-returns
 unfolding opens
-returns c = Stepping.stepped (Ask (c .before .before .before .before .before .before .before .before .before .before .before .before .before .before .before .before .before .before .before .before .before)) (c .before .before .before .before .before .before .before .before .before .before .before .before .before .before .before .before .before .before .before .before .before .args .self) _ _ _ _ _ _ refl refl (c .before .before .before .before .before .before .before .before .before .before .before .before .before .before .before .before .before .before .before .before .before .pre .1 .1) (rw (c .before .before .before .before .before .before .before .before .before .before .before .before .before .tables .ensures) at (c .before .before .before .before .open-all .ensures))
+returns c =
+    let s = c .before .before .before .before .before .before .before .before .before .before .before .before .before .before .before .before .before .before .before .before .before in
+    let at-tables = c .before .before .before .before .before .before .before .before .before .before .before .before .before .tables in
+    let at-open-all = c .before .before .before .before .open-all in
+    Stepping.stepped (Ask s) (s .args .self) _ _ _ _ _ _ refl refl (s .pre .1 .1) (rw (at-tables .ensures) at (at-open-all .ensures))
 
 pub step-spec : {M : Type 1} → statement M
 step-spec =

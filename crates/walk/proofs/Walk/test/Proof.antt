@@ -1,6 +1,6 @@
 -- `walk::Walk::test` meets its contract. Assumes nothing.
-use mathlib.Core.Path.{_≡_, refl, sym, ap, _∙_}
-use Prim.Native.Nat.{ℕ, _*_, _≤_, _<_}
+use mathlib.Core.Path.{_≡_, refl, sym, _∙_}
+use Prim.Native.Nat.{ℕ, _*_, _<_}
 use native.Mathlib.Omega.{arith}
 use lib.Dec.{ltb}
 use Rattle.codes.proofs.Codes.{distance-le}
@@ -64,13 +64,19 @@ slice-write-tally : tie.Need-slice-write-tally
 slice-write-tally c = few (c .before .before .before .before .before .before .before .before .before .before .before .before .before .before) _ (c .before .distance .ensures) .in-tally
 
 add-t21 : tie.Need-add-t21
-add-t21 c = omega (arith, few (c .before .before .before .before .before .before .before .before .before .before .before .before .before .before .before .before .before) _ (c .before .before .before .before .distance .ensures) .tested)
+add-t21 c =
+    let s = c .before .before .before .before .before .before .before .before .before .before .before .before .before .before .before .before .before in
+    let at-distance = c .before .before .before .before .distance in
+    omega (arith, few s _ (at-distance .ensures) .tested)
 
 cast-t22 : tie.Need-cast-t22
 cast-t22 c = search needs
 
 add-t27 : tie.Need-add-t27
-add-t27 c = omega (arith, few (c .before .before .before .before .before .before .before .before .before .before .before .before .before .before .before .before .before .before .before) _ (c .before .before .before .before .before .before .distance .ensures) .near (ltb (c .before .before .before .before .before .before .distance .result) (c .before .before .before .before .before .before .before .before .before .before .before .before .before .before .before .before .before .before .before .args .self .at)))
+add-t27 c =
+    let s = c .before .before .before .before .before .before .before .before .before .before .before .before .before .before .before .before .before .before .before in
+    let at-distance = c .before .before .before .before .before .before .distance in
+    omega (arith, few s _ (at-distance .ensures) .near (ltb (at-distance .result) (s .args .self .at)))
 
 same-length-2 : tie.Need-same-length-2
 same-length-2 c = search needs
@@ -79,7 +85,13 @@ same-length-3 : tie.Need-same-length-3
 same-length-3 c = search needs
 
 returns-2 : tie.Need-returns-2
-returns-2 c = Testing.tests-new (D (c .before .before .before .before .before .before .before .before .before .before .before .before .before .before .before .before .before .before .before)) _ _ _ _ (c .before .before .before .before .before .before .before .before .before .before .before .before .before .before .before .before .before .before .before .pre .1 .1) _ _ _ (c .before .before .before .before .before .before .before .before .before .before .before .before .before .before .before .before .before .before .before .pre .1 .0 .0) (sym (c .before .before .before .before .before .before .before .before .before .before .before .before .before .marked .ensures) ∙ c .before .before .before .before .before .before .before .before .before .before .before .before .if1 .left) (close (c .before .before .before .before .before .before .before .before .before .before .before .before .before .before .before .before .before .before .before)) (c .before .before .before .before .before .before .distance .ensures) (c .before .before .before .before .before .before .before .before .before .before .mark .ensures)
+returns-2 c =
+    let s = c .before .before .before .before .before .before .before .before .before .before .before .before .before .before .before .before .before .before .before in
+    let at-marked = c .before .before .before .before .before .before .before .before .before .before .before .before .before .marked in
+    let at-if1 = c .before .before .before .before .before .before .before .before .before .before .before .before .if1 in
+    let at-mark = c .before .before .before .before .before .before .before .before .before .before .mark in
+    let at-distance = c .before .before .before .before .before .before .distance in
+    Testing.tests-new (D s) _ _ _ _ (s .pre .1 .1) _ _ _ (s .pre .1 .0 .0) (sym (at-marked .ensures) ∙ at-if1 .left) (close s) (at-distance .ensures) (at-mark .ensures)
 
 pub test-spec : {M : Type 1} → statement M
 test-spec =

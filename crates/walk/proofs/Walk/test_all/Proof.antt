@@ -1,16 +1,16 @@
 -- `walk::Walk::test_all` meets its contract: the loop tests the ids of the places that it passes. Assumes nothing.
-use mathlib.Core.Path.{_≡_, refl, sym, ap, _∙_}
-use mathlib.Core.Bool.{Bool, true, false, _||_}
-use mathlib.Core.List.{List, [], _∷_, _++_, map, map-append}
-use Prim.Native.Nat.{ℕ, suc, _+_, _-_, _*_, _≤_, _<_}
+use mathlib.Core.Path.{_≡_, sym, _∙_}
+use mathlib.Core.Bool.{Bool, false, _||_}
+use mathlib.Core.List.{List, map, map-append}
+use Prim.Native.Nat.{ℕ, _+_, _-_, _*_, _≤_}
 use native.Mathlib.Nat.{le-refl}
 use native.Mathlib.Numerals.{add-one}
 use native.Mathlib.Omega.{arith}
 use lib.Dec.{eqb}
-use lib.ListN.{length, getD}
+use lib.ListN.{length}
 use Rattle.theory.specs.Lists.{between, has}
 use Rattle.theory.proofs.Lists.{between-suc, between-none, has-append, has-one, has-none}
-use Rattle.scope.specs.Tables.{Index, index, n, start, idAt, bucket}
+use Rattle.scope.specs.Tables.{Index, index, n, start, idAt}
 use Rattle.scope.specs.Refusals.{markWords}
 use Rattle.scope.proofs.Shapes.{facts, few-buckets}
 use Rattle.scope.proofs.Walking.{Good, good}
@@ -59,13 +59,19 @@ sound : (c : tie.Start Inv-loop μ-loop) → Good (X c) (c .args .z) (c .args .v
 sound c = good (X c) (c .args .z) (c .args .v) (c .pre .1 .1 .0)
 
 start-requires : tie.Need-start-requires Inv-loop μ-loop
-start-requires c κs = ((c .before .before .before .before .before .before .before .pre .0 .lent .known, c .before .before .before .before .before .before .before .pre .1 .0 .0, omega arith, c .before .before .before .before .before .before .before .pre .0 .lent .starts))
+start-requires c κs =
+    let s = c .before .before .before .before .before .before .before in
+    ((s .pre .0 .lent .known, s .pre .1 .0 .0, omega arith, s .pre .0 .lent .starts))
 
 add-start : tie.Need-add-start Inv-loop μ-loop
-add-start c = omega (arith, few-buckets _ (facts _ (c .before .before .before .before .before .before .before .before .pre .0 .lent .known)) (c .before .before .before .before .before .before .before .before .args .z))
+add-start c =
+    let s = c .before .before .before .before .before .before .before .before in
+    omega (arith, few-buckets _ (facts _ (s .pre .0 .lent .known)) (s .args .z))
 
 start-requires-2 : tie.Need-start-requires-2 Inv-loop μ-loop
-start-requires-2 c κs = ((c .before .before .before .before .before .before .before .before .pre .0 .lent .known, c .before .before .before .before .before .before .before .before .pre .1 .0 .0, omega arith, c .before .before .before .before .before .before .before .before .pre .0 .lent .starts))
+start-requires-2 c κs =
+    let s = c .before .before .before .before .before .before .before .before in
+    ((s .pre .0 .lent .known, s .pre .1 .0 .0, omega arith, s .pre .0 .lent .starts))
 
 mul-before : tie.Need-mul-before Inv-loop μ-loop
 mul-before c = omega (arith, room (c .before .before .before .before .before .before .before .before .before))
@@ -73,39 +79,52 @@ mul-before c = omega (arith, room (c .before .before .before .before .before .be
 loop-holds : tie.Need-loop-holds Inv-loop μ-loop
 unfolding start
 loop-holds c =
+    let s = c .before .before .before .before .before .before .before .before .before in
     rw (c .before .start .ensures)
     (record {
       from = omega arith;
-      to = sound (c .before .before .before .before .before .before .before .before .before) .order;
-      tests = Testing.tests-none _ _ _ _ _ _ (none-yet (X (c .before .before .before .before .before .before .before .before .before)) (c .before .before .before .before .before .before .before .before .before .args .z) (c .before .before .before .before .before .before .before .before .before .args .v)) (c .before .before .before .before .before .before .before .before .before .pre .1 .1 .1);
+      to = sound s .order;
+      tests = Testing.tests-none _ _ _ _ _ _ (none-yet (X s) (s .args .z) (s .args .v)) (s .pre .1 .1 .1);
     })
 
 add-i : tie.Need-add-i Inv-loop μ-loop
 unfolding start
-add-i c = let e = c .before .before .start2 .ensures in omega (arith, room (c .before .before .before .before .before .before .before .before .before .before .before), sound (c .before .before .before .before .before .before .before .before .before .before .before) .inside)
+add-i c =
+    let s = c .before .before .before .before .before .before .before .before .before .before .before in
+    let e = c .before .before .start2 .ensures in omega (arith, room s, sound s .inside)
 
 mul-i : tie.Need-mul-i Inv-loop μ-loop
 unfolding start
-mul-i c = let e = c .before .before .start2 .ensures in omega (arith, room (c .before .before .before .before .before .before .before .before .before .before .before), sound (c .before .before .before .before .before .before .before .before .before .before .before) .inside)
+mul-i c =
+    let s = c .before .before .before .before .before .before .before .before .before .before .before in
+    let e = c .before .before .start2 .ensures in omega (arith, room s, sound s .inside)
 
 shared-slice-read-i : tie.Need-shared-slice-read-i Inv-loop μ-loop
 unfolding start
-shared-slice-read-i c = let e = c .before .before .before .start2 .ensures in omega (arith, room (c .before .before .before .before .before .before .before .before .before .before .before .before), sound (c .before .before .before .before .before .before .before .before .before .before .before .before) .inside)
+shared-slice-read-i c =
+    let s = c .before .before .before .before .before .before .before .before .before .before .before .before in
+    let at-start2 = c .before .before .before .start2 in
+    let e = at-start2 .ensures in omega (arith, room s, sound s .inside)
 
 cast-i : tie.Need-cast-i Inv-loop μ-loop
-cast-i c = omega (arith, c .shared-slice-known6 .given (c .before .before .before .before .before .before .before .before .before .before .before .before .args .z * length (c .before .before .before .before .before .before .before .before .before .before .before .before .args .stars .now) + c .before .before .loop .p))
+cast-i c =
+    let s = c .before .before .before .before .before .before .before .before .before .before .before .before in
+    omega (arith, c .shared-slice-known6 .given (s .args .z * length (s .args .stars .now) + c .before .before .loop .p))
 
 test-requires : tie.Need-test-requires Inv-loop μ-loop
 unfolding start idAt
 test-requires c κs =
-    let x = X (c .before .before .before .before .before .before .before .before .before .before .before .before .before .before) in
-    let f = facts _ (c .before .before .before .before .before .before .before .before .before .before .before .before .before .before .pre .0 .lent .known) in
-    let inv = c .before .before .before .before .loop .inv in
-    let entry = sound (c .before .before .before .before .before .before .before .before .before .before .before .before .before .before) .entry (c .before .before .before .before .loop .p) (inv .from) (let e = c .before .before .before .before .before .start2 .ensures in omega arith) in
+    let s = c .before .before .before .before .before .before .before .before .before .before .before .before .before .before in
+    let at-start2 = c .before .before .before .before .before .start2 in
+    let at-loop = c .before .before .before .before .loop in
+    let x = X s in
+    let f = facts _ (s .pre .0 .lent .known) in
+    let inv = at-loop .inv in
+    let entry = sound s .entry (at-loop .p) (inv .from) (let e = at-start2 .ensures in omega arith) in
     let long = inv .tests .counted .long in
-    let many = c .before .before .before .before .before .before .before .before .before .before .before .before .before .before .pre .0 .lent .few in
-    let row = in-parts (idAt x (c .before .before .before .before .before .before .before .before .before .before .before .before .before .before .args .z) (c .before .before .before .before .loop .p)) (n x) (c .before .before .before .before .before .before .before .before .before .before .before .before .before .before .args .shape .w) entry in (
-      (f .few-words, (let l = c .before .before .before .before .before .before .before .before .before .before .before .before .before .before .pre .0 .lent .codes in omega arith), c .before .before .before .before .before .before .before .before .before .before .before .before .before .before .pre .0 .query),
+    let many = s .pre .0 .lent .few in
+    let row = in-parts (idAt x (s .args .z) (at-loop .p)) (n x) (s .args .shape .w) entry in (
+      (f .few-words, (let l = s .pre .0 .lent .codes in omega arith), s .pre .0 .query),
       (
         (omega arith, omega arith),
         Testing.at-length _ _ _ _ _ (inv .tests .counted),
@@ -121,25 +140,33 @@ loop-less c = search needs
 loop-again : tie.Need-loop-again Inv-loop μ-loop
 unfolding start idAt
 loop-again c =
-    let inv = c .before .before .before .before .before .before .before .before .before .loop .inv in
+    let s = c .before .before .before .before .before .before .before .before .before .before .before .before .before .before .before .before .before .before .before in
+    let at-start2 = c .before .before .before .before .before .before .before .before .before .before .start2 in
+    let at-loop = c .before .before .before .before .before .before .before .before .before .loop in
+    let at-loop-test = c .before .before .before .before .before .before .before .before .loop-test in
+    let at-test = c .before .before .before .before .test in
+    let inv = at-loop .inv in
     record {
       from = let l = inv .from in omega arith;
-      to = let e = c .before .before .before .before .before .before .before .before .before .before .start2 .ensures in omega arith;
+      to = let e = at-start2 .ensures in omega (arith, at-loop-test .taken);
       tests =
-          Testing.tests-more (D (c .before .before .before .before .before .before .before .before .before .before .before .before .before .before .before .before .before .before .before)) _ _ _ _ _ _ _ _ _ _ _ _ (one-more (X (c .before .before .before .before .before .before .before .before .before .before .before .before .before .before .before .before .before .before .before)) (c .before .before .before .before .before .before .before .before .before .before .before .before .before .before .before .before .before .before .before .args .z) (c .before .before .before .before .before .before .before .before .before .before .before .before .before .before .before .before .before .before .before .args .v) (c .before .before .before .before .before .before .before .before .before .loop .p) (inv .from)) (inv .tests) (c .before .before .before .before .test .ensures);
+          Testing.tests-more (D s) _ _ _ _ _ _ _ _ _ _ _ _ (one-more (X s) (s .args .z) (s .args .v) (at-loop .p) (inv .from)) (inv .tests) (at-test .ensures);
     }
 
 same-length : tie.Need-same-length Inv-loop μ-loop
 same-length c = c .before .loop .inv .tests .counted .long ∙ sym (c .before .before .before .before .before .before .before .before .before .before .before .pre .1 .1 .1 .long)
 
 same-length-2 : tie.Need-same-length-2 Inv-loop μ-loop
-same-length-2 c = Testing.tally-long _ _ _ _ _ (c .before .loop .inv .tests .counted) ∙ sym (Testing.tally-long _ _ _ _ _ (c .before .before .before .before .before .before .before .before .before .before .before .pre .1 .1 .1))
+same-length-2 c =
+    let s = c .before .before .before .before .before .before .before .before .before .before .before in
+    Testing.tally-long _ _ _ _ _ (c .before .loop .inv .tests .counted) ∙ sym (Testing.tally-long _ _ _ _ _ (s .pre .1 .1 .1))
 
 returns : tie.Need-returns Inv-loop μ-loop
 unfolding start
 returns c =
+    let s = c .before .before .before .before .before .before .before .before .before .before .before in
     let inv = c .before .loop .inv in
-    let end : c .before .loop .p ≡ start (X (c .before .before .before .before .before .before .before .before .before .before .before)) (c .before .before .before .before .before .before .before .before .before .before .before .args .z) (c .before .before .before .before .before .before .before .before .before .before .before .args .v + 1) = let e = c .before .before .start2 .ensures in let l = inv .to in omega arith in
+    let end : c .before .loop .p ≡ start (X s) (s .args .z) (s .args .v + 1) = let e = c .before .before .start2 .ensures in let l = inv .to in omega arith in
     rw end at (inv .tests)
 
 pub test-all-spec : {M : Type 1} → statement M

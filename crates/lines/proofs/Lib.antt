@@ -1,0 +1,3 @@
+-- Laws of writing: text after text, digits, words, lines of answers.
+pub mod Writing
+pub mod Digits

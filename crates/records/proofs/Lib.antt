@@ -1,0 +1,2 @@
+-- Laws of the functions under `turn`.
+pub mod Arms

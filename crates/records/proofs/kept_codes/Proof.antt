@@ -1,0 +1,31 @@
+-- `records::kept_codes` meets its contract. Assumes nothing.
+use borrow.Author.Needs.{needs}
+use lib.Seq.{length-take-le, take-all}
+use mathlib.Core.Path.{sym}
+use native.Mathlib.Omega.{arith}
+use Rattle.records.proofs.Arms.{product-fits}
+use Rattle.records.proofs.kept_codes.Statement.{statement}
+use Rattle.records.proofs.kept_codes.Tie as tie
+
+cast-n : tie.Need-cast-n
+cast-n c = search needs
+
+cast-n-2 : tie.Need-cast-n-2
+cast-n-2 c = search needs
+
+mul-n : tie.Need-mul-n
+mul-n c = record { fits = product-fits (c .before .before .args .session .entries) (c .before .before .args .session .words) (omega (arith, c .before .struct-known .given)) (omega (arith, c .struct-known2 .given)) }
+
+slice-aggregate-result : tie.Need-slice-aggregate-result
+slice-aggregate-result c = sym (length-take-le _ (c .before .before .before .before .args .codes .now) (omega arith))
+
+returns : tie.Need-returns
+returns c = search needs
+
+returns-2 : tie.Need-returns-2
+returns-2 c =
+    sym (take-all _ (c .before .before .before .args .codes .now) (c .if1 .left))
+
+pub kept-codes-spec : {M : Type 1} → statement M
+kept-codes-spec =
+    tie.close (tie.spec cast-n cast-n-2 mul-n slice-aggregate-result returns returns-2)

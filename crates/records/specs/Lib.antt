@@ -1,0 +1,2 @@
+-- What the functions under `turn` leave.
+pub mod Arms

@@ -1,0 +1,105 @@
+/* Tirnavoy: exact search in Hamming distance over binary codes of star fields.
+ *
+ * Every function ends on every input, touches only the lists it is lent, and returns the number of the first refusal that fits (0: none). A list is a pointer and its number
+ * of elements; the pointer is not null, also where that number is 0, and a list that a call writes overlaps no other. No call keeps a pointer.
+ *
+ * A catalogue is two lists: n star numbers, and n codes of w words each, bit j of a code being bit j % 64 of its word j / 64. Entries are numbered from 0. Its tables are two
+ * lists that tirnavoy_build fills. The sizes of all lists are given by the inline functions below.
+ */
+#ifndef TIRNAVOY_H
+#define TIRNAVOY_H
+
+#if !defined(__has_include)
+#include <stddef.h>
+#include <stdint.h>
+#elif __has_include(<stddef.h>) && __has_include(<stdint.h>)
+#include <stddef.h>
+#include <stdint.h>
+#else /* a compiler without a C library */
+typedef __UINT32_TYPE__ uint32_t;
+typedef __UINT64_TYPE__ uint64_t;
+typedef __SIZE_TYPE__ size_t;
+#endif
+
+#ifdef __cplusplus
+extern "C" {
+#endif
+
+/* What a function returns. Refusals 1 to 5 and 8 to 10 change no list. */
+enum tirnavoy_refusal {
+    TIRNAVOY_NONE = 0,
+    TIRNAVOY_SHAPE = 1,      /* w is not 1, 2 or 4, or s is not 4, 8 or 16 */
+    TIRNAVOY_CATALOGUE = 2,  /* more than 65,536 stars, or the code list is not n * w long */
+    TIRNAVOY_TABLES = 3,     /* starts or ids too short */
+    TIRNAVOY_QUERY = 4,      /* the query is not w words long; r, t, g or the step is above q = 64 * w */
+    TIRNAVOY_ROOM = 5,       /* too few mark words; nearest: an answer list shorter than the smaller of k and n */
+    TIRNAVOY_TOO_MANY = 6,   /* within: more answers than the shorter answer list holds */
+    TIRNAVOY_BAD_BUCKET = 7, /* the search met a bucket that the builder cannot have written */
+    TIRNAVOY_OFFSETS = 8,    /* across and up lists of unequal length, or longer than 4,096 */
+    TIRNAVOY_NOT_FINITE = 9, /* an angle is infinite or not a number */
+    TIRNAVOY_OUTSIDE = 10    /* an angle lies outside the field, -4 <= angle < 4 degrees */
+};
+
+enum tirnavoy_verdict_kind { TIRNAVOY_NO_FIELD = 0, TIRNAVOY_UNSURE = 1, TIRNAVOY_MATCH = 2 };
+
+/* ---- sizes, for a listed w and s */
+
+/* how many tables there are */
+static inline size_t tirnavoy_tables(uint32_t w, uint32_t s) { return (size_t)64 * w / s; }
+
+/* how many numbers the starts hold, and the ids of n entries */
+static inline size_t tirnavoy_starts_length(uint32_t w, uint32_t s) { return tirnavoy_tables(w, s) * (((size_t)1 << s) + 1); }
+static inline size_t tirnavoy_ids_length(uint32_t w, uint32_t s, size_t n) { return tirnavoy_tables(w, s) * n; }
+
+/* how many mark words a search over n entries is lent */
+static inline size_t tirnavoy_mark_words(size_t n) { return (n + 63) / 64; }
+
+/* ---- tables */
+
+/* Fills starts and ids for the catalogue; places past the needed ones are unchanged. Refusals 1, 2, 3. */
+uint32_t tirnavoy_build(uint32_t w, uint32_t s, const uint32_t *stars, size_t stars_len, const uint64_t *codes, size_t codes_len, uint32_t *starts, size_t starts_len, uint32_t *ids,
+                        size_t ids_len);
+
+/* *sound becomes 1 where starts and ids hold what tirnavoy_build would write, and 0 where not or refused. Reads the lists only. Refusals 1, 2, 3. */
+uint32_t tirnavoy_check(uint32_t w, uint32_t s, const uint32_t *stars, size_t stars_len, const uint64_t *codes, size_t codes_len, const uint32_t *starts, size_t starts_len,
+                        const uint32_t *ids, size_t ids_len, uint32_t *sound);
+
+/* ---- searches
+ *
+ * Marks are the caller's scratch: they may come in with any contents, and the first tirnavoy_mark_words(n) end as 0. Answers come as entry numbers and distances: smaller
+ * distance first, then smaller entry number. *opened becomes the number of buckets opened, *tested that of entries tested. After refusal 7 *table and *bucket say where the bad
+ * bucket is. Each of these is 0 where it has no meaning. */
+
+/* The k nearest entries, or all n where k is larger. With K = min(k, n), the first K places of the answer lists hold the answers, then zeros (zeros alone after refusal 7); later
+ * places are unchanged. *answers becomes the number of answers. Refusals 1, 2, 3, 4, 5, 7. */
+uint32_t tirnavoy_nearest(uint32_t w, uint32_t s, const uint32_t *stars, size_t stars_len, const uint64_t *codes, size_t codes_len, const uint32_t *starts, size_t starts_len,
+                          const uint32_t *ids, size_t ids_len, const uint64_t *query, size_t query_len, uint32_t k, uint64_t *marks, size_t marks_len, uint32_t *entries,
+                          size_t entries_len, uint32_t *distances, size_t distances_len, uint32_t *answers, uint32_t *opened, uint32_t *tested, uint32_t *table, uint32_t *bucket);
+
+/* All entries at distance r or less. With P the smallest of n and the two answer lists' lengths, the first P places hold the answers, then zeros (after refusal 6 the first P
+ * answers, after 7 zeros); later places are unchanged. *answers becomes the number of answers; after refusal 6, how many there would be. Refusals 1, 2, 3, 4, 5, 7, then 6. */
+uint32_t tirnavoy_within(uint32_t w, uint32_t s, const uint32_t *stars, size_t stars_len, const uint64_t *codes, size_t codes_len, const uint32_t *starts, size_t starts_len,
+                         const uint32_t *ids, size_t ids_len, const uint64_t *query, size_t query_len, uint32_t r, uint64_t *marks, size_t marks_len, uint32_t *entries,
+                         size_t entries_len, uint32_t *distances, size_t distances_len, uint32_t *answers, uint32_t *opened, uint32_t *tested, uint32_t *table, uint32_t *bucket);
+
+/* Which field is it? Searches the nearest 2. *verdict becomes TIRNAVOY_NO_FIELD where there is no entry or the first is farther than the reach t; TIRNAVOY_UNSURE where a second is
+ * less than the gap g farther than the first, with *star, *other, *distance, *farther of the two; otherwise TIRNAVOY_MATCH with *star and *distance. Refusals 1, 2, 3, 4, 5, 7. */
+uint32_t tirnavoy_verdict(uint32_t w, uint32_t s, const uint32_t *stars, size_t stars_len, const uint64_t *codes, size_t codes_len, const uint32_t *starts, size_t starts_len,
+                          const uint32_t *ids, size_t ids_len, const uint64_t *query, size_t query_len, uint32_t t, uint32_t g, uint64_t *marks, size_t marks_len, uint32_t *verdict,
+                          uint32_t *star, uint32_t *other, uint32_t *distance, uint32_t *farther, uint32_t *opened, uint32_t *tested, uint32_t *table, uint32_t *bucket);
+
+/* The blackboard's number: *buckets becomes how many buckets are open after the step, 0 to q; 0 where refused. Refusals 1, 4. */
+uint32_t tirnavoy_blackboard(uint32_t w, uint32_t s, uint32_t step, uint32_t *buckets);
+
+/* ---- from sky to code
+ *
+ * The 64-bit code (w = 1) of stars at the given offsets: a star sets bit 8 * row + column, across giving the column and up the row. *code becomes the code, *place the star's place
+ * after refusals 9 and 10; each is 0 where it has no meaning. Refusals 8, 9, 10. */
+uint32_t tirnavoy_sky_degrees(const double *across, size_t across_len, const double *up, size_t up_len, uint64_t *code, uint32_t *place);
+uint32_t tirnavoy_sky_radians(const double *across, size_t across_len, const double *up, size_t up_len, uint64_t *code, uint32_t *place);
+
+#ifdef __cplusplus
+}
+#endif
+
+#endif
