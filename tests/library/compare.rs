@@ -3,56 +3,12 @@
 //! usage: compare random CALLS SEED     random calls over all shapes, sound and damaged tables, every refusal
 //!        compare large SEED            a few calls at n = 65,536
 //!        compare fuzz SECONDS SEED     calls made of random bytes: any lengths from 0, any numbers
+mod library;
+mod random;
 mod reference;
+use random::Random;
 use reference::{Index, Lists, Refusal, Report, Verdict};
 use std::time::{Duration, Instant};
-
-mod library {
-    extern "C" {
-        pub fn tirnavoy_build(w: u32, s: u32, stars: *const u32, stars_len: usize, codes: *const u64, codes_len: usize, starts: *mut u32, starts_len: usize, ids: *mut u32, ids_len: usize) -> u32;
-        pub fn tirnavoy_check(w: u32, s: u32, stars: *const u32, stars_len: usize, codes: *const u64, codes_len: usize, starts: *const u32, starts_len: usize, ids: *const u32, ids_len: usize, sound: *mut u32) -> u32;
-        pub fn tirnavoy_nearest(
-            w: u32, s: u32, stars: *const u32, stars_len: usize, codes: *const u64, codes_len: usize, starts: *const u32, starts_len: usize, ids: *const u32, ids_len: usize,
-            query: *const u64, query_len: usize, k: u32, marks: *mut u64, marks_len: usize, entries: *mut u32, entries_len: usize, distances: *mut u32, distances_len: usize,
-            answers: *mut u32, opened: *mut u32, tested: *mut u32, table: *mut u32, bucket: *mut u32,
-        ) -> u32;
-        pub fn tirnavoy_within(
-            w: u32, s: u32, stars: *const u32, stars_len: usize, codes: *const u64, codes_len: usize, starts: *const u32, starts_len: usize, ids: *const u32, ids_len: usize,
-            query: *const u64, query_len: usize, r: u32, marks: *mut u64, marks_len: usize, entries: *mut u32, entries_len: usize, distances: *mut u32, distances_len: usize,
-            answers: *mut u32, opened: *mut u32, tested: *mut u32, table: *mut u32, bucket: *mut u32,
-        ) -> u32;
-        pub fn tirnavoy_verdict(
-            w: u32, s: u32, stars: *const u32, stars_len: usize, codes: *const u64, codes_len: usize, starts: *const u32, starts_len: usize, ids: *const u32, ids_len: usize,
-            query: *const u64, query_len: usize, t: u32, g: u32, marks: *mut u64, marks_len: usize,
-            verdict: *mut u32, star: *mut u32, other: *mut u32, distance: *mut u32, farther: *mut u32, opened: *mut u32, tested: *mut u32, table: *mut u32, bucket: *mut u32,
-        ) -> u32;
-        pub fn tirnavoy_blackboard(w: u32, s: u32, step: u32, buckets: *mut u32) -> u32;
-        pub fn tirnavoy_sky_degrees(across: *const f64, across_len: usize, up: *const f64, up_len: usize, code: *mut u64, place: *mut u32) -> u32;
-        pub fn tirnavoy_sky_radians(across: *const f64, across_len: usize, up: *const f64, up_len: usize, code: *mut u64, place: *mut u32) -> u32;
-    }
-}
-
-/// splitmix64: the same calls from the same seed, everywhere.
-struct Random(u64);
-
-impl Random {
-    fn next(&mut self) -> u64 {
-        self.0 = self.0.wrapping_add(0x9E3779B97F4A7C15);
-        let mut z = self.0;
-        z = (z ^ (z >> 30)).wrapping_mul(0xBF58476D1CE4E5B9);
-        z = (z ^ (z >> 27)).wrapping_mul(0x94D049BB133111EB);
-        z ^ (z >> 31)
-    }
-    fn below(&mut self, n: u64) -> u64 {
-        self.next() % n.max(1)
-    }
-    fn one_in(&mut self, n: u64) -> bool {
-        self.below(n) == 0
-    }
-    fn pick<T: Copy>(&mut self, of: &[T]) -> T {
-        of[self.below(of.len() as u64) as usize]
-    }
-}
 
 /// A list with guard values on both sides, which no call may change.
 struct Guarded<T> {
