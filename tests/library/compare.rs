@@ -335,6 +335,15 @@ fn large(rng: &mut Random) -> Result<u32, String> {
 /// A call whose lengths and numbers are anything.
 fn wild(rng: &mut Random) -> Result<u32, String> {
     let any = |rng: &mut Random| { let shift = rng.below(32); (rng.next() as u32) >> shift };
+    if rng.one_in(10) {
+        let (w, s, step) = (any(rng), any(rng), any(rng));
+        return run_blackboard(w, s, step);
+    }
+    if rng.one_in(10) {
+        let bits = |rng: &mut Random| { let len = rng.below(9); (0..len).map(|_| f64::from_bits(rng.next())).collect::<Vec<f64>>() };
+        let (across, up) = (bits(rng), bits(rng));
+        return run_sky(rng.one_in(2), &across, &up);
+    }
     let list = |rng: &mut Random, most: u64| { let len = rng.below(most); (0..len).map(|_| any(rng)).collect::<Vec<u32>>() };
     let words = |rng: &mut Random, most: u64| { let len = rng.below(most); (0..len).map(|_| rng.next()).collect::<Vec<u64>>() };
     let (w, s) = if rng.one_in(3) { (any(rng), any(rng)) } else { (rng.pick(&[1, 2, 4]), rng.pick(&[4, 8])) };
