@@ -11,13 +11,13 @@ int printf(const char *format, ...);
 #endif
 
 enum { W = 1, S = 8, FIELDS = 60, STARS = 14, REACH = 6, GAP = 3 };
+enum { STARTS = TIRNAVOY_STARTS_LENGTH(W, S), IDS = TIRNAVOY_IDS_LENGTH(W, S, FIELDS), MARKS = TIRNAVOY_MARK_WORDS(FIELDS) };
 
 static uint32_t stars[FIELDS];
 static uint64_t codes[FIELDS];
 static double across[FIELDS][STARS], up[FIELDS][STARS];
-static uint32_t starts[64 * W / S * ((1 << S) + 1)];
-static uint32_t ids[64 * W / S * FIELDS];
-static uint64_t marks[(FIELDS + 63) / 64];
+static uint32_t starts[STARTS], ids[IDS];
+static uint64_t marks[MARKS];
 
 /* a number from 0 up to, not including, 1: the same sky on every machine */
 static double chance(void) {
@@ -41,7 +41,7 @@ static int make_catalogue(void) {
         stars[f] = 1000 + (uint32_t)f;
         if (tirnavoy_sky_degrees(across[f], STARS, up[f], STARS, &codes[f], &place) != TIRNAVOY_NONE) return 0;
     }
-    return tirnavoy_build(W, S, stars, FIELDS, codes, FIELDS, starts, sizeof starts / sizeof *starts, ids, sizeof ids / sizeof *ids) == TIRNAVOY_NONE;
+    return tirnavoy_build(W, S, stars, FIELDS, codes, FIELDS, starts, STARTS, ids, IDS) == TIRNAVOY_NONE;
 }
 
 /* asks the verdict on a shot, and how far the nearest field is, whatever the verdict */
@@ -53,8 +53,8 @@ static void ask(const char *what, const double *x, const double *y, size_t n) {
         printf("%s: refused %u at star %u\n", what, (unsigned)refusal, (unsigned)place);
         return;
     }
-    refusal = tirnavoy_verdict(W, S, stars, FIELDS, codes, FIELDS, starts, sizeof starts / sizeof *starts, ids, sizeof ids / sizeof *ids, &code, 1, REACH, GAP, marks,
-                               sizeof marks / sizeof *marks, &verdict, &star, &other, &distance, &farther, &opened, &tested, &table, &bucket);
+    refusal = tirnavoy_verdict(W, S, stars, FIELDS, codes, FIELDS, starts, STARTS, ids, IDS, &code, 1, REACH, GAP, marks, MARKS, &verdict, &star, &other, &distance, &farther, &opened,
+                               &tested, &table, &bucket);
     if (refusal != TIRNAVOY_NONE) {
         printf("%s: refused %u\n", what, (unsigned)refusal);
         return;
@@ -62,8 +62,8 @@ static void ask(const char *what, const double *x, const double *y, size_t n) {
     if (verdict == TIRNAVOY_MATCH) printf("%s: field %u at distance %u", what, (unsigned)star, (unsigned)distance);
     if (verdict == TIRNAVOY_UNSURE) printf("%s: unsure, field %u at distance %u or field %u at %u", what, (unsigned)star, (unsigned)distance, (unsigned)other, (unsigned)farther);
     if (verdict == TIRNAVOY_NO_FIELD) {
-        tirnavoy_nearest(W, S, stars, FIELDS, codes, FIELDS, starts, sizeof starts / sizeof *starts, ids, sizeof ids / sizeof *ids, &code, 1, 1, marks, sizeof marks / sizeof *marks,
-                         entry, 1, nearest, 1, &answers, &opened, &tested, &table, &bucket);
+        /* not refused either: it is asked of the same lists, with room for the one answer */
+        tirnavoy_nearest(W, S, stars, FIELDS, codes, FIELDS, starts, STARTS, ids, IDS, &code, 1, 1, marks, MARKS, entry, 1, nearest, 1, &answers, &opened, &tested, &table, &bucket);
         printf("%s: none, the nearest field is at distance %u", what, (unsigned)nearest[0]);
     }
     printf(" (%u buckets, %u tested)\n", (unsigned)opened, (unsigned)tested);

@@ -4,7 +4,7 @@
  * of elements; the pointer is not null, also where that number is 0, and a list that a call writes overlaps no other. No call keeps a pointer.
  *
  * A catalogue is two lists: n star numbers, and n codes of w words each, bit j of a code being bit j % 64 of its word j / 64. Entries are numbered from 0. Its tables are two
- * lists that tirnavoy_build fills. The sizes of all lists are given by the inline functions below.
+ * lists that tirnavoy_build fills. The macros below give the sizes of all lists.
  */
 #ifndef TIRNAVOY_H
 #define TIRNAVOY_H
@@ -42,17 +42,14 @@ enum tirnavoy_refusal {
 
 enum tirnavoy_verdict_kind { TIRNAVOY_NO_FIELD = 0, TIRNAVOY_UNSURE = 1, TIRNAVOY_MATCH = 2 };
 
-/* ---- sizes, for a listed w and s */
-
-/* how many tables there are */
-static inline size_t tirnavoy_tables(uint32_t w, uint32_t s) { return (size_t)64 * w / s; }
+/* ---- sizes, for a listed w and s; constant expressions where w, s and n are */
 
 /* how many numbers the starts hold, and the ids of n entries */
-static inline size_t tirnavoy_starts_length(uint32_t w, uint32_t s) { return tirnavoy_tables(w, s) * (((size_t)1 << s) + 1); }
-static inline size_t tirnavoy_ids_length(uint32_t w, uint32_t s, size_t n) { return tirnavoy_tables(w, s) * n; }
+#define TIRNAVOY_STARTS_LENGTH(w, s) ((size_t)64 * (w) / (s) * (((size_t)1 << (s)) + 1))
+#define TIRNAVOY_IDS_LENGTH(w, s, n) ((size_t)64 * (w) / (s) * (n))
 
 /* how many mark words a search over n entries is lent */
-static inline size_t tirnavoy_mark_words(size_t n) { return (n + 63) / 64; }
+#define TIRNAVOY_MARK_WORDS(n) (((size_t)(n) + 63) / 64)
 
 /* ---- tables */
 
@@ -66,7 +63,7 @@ uint32_t tirnavoy_check(uint32_t w, uint32_t s, const uint32_t *stars, size_t st
 
 /* ---- searches
  *
- * Marks are the caller's scratch: they may come in with any contents, and the first tirnavoy_mark_words(n) end as 0. Answers come as entry numbers and distances: smaller
+ * Marks are the caller's scratch: they may come in with any contents, and the first TIRNAVOY_MARK_WORDS(n) end as 0. Answers come as entry numbers and distances: smaller
  * distance first, then smaller entry number. *opened becomes the number of buckets opened, *tested that of entries tested. After refusal 7 *table and *bucket say where the bad
  * bucket is. Each of these is 0 where it has no meaning. */
 

@@ -1,0 +1,155 @@
+/* Document 01's worked examples, asked through the header: every exported function and every out of it. C99 and C++.
+ * A wrong value is printed with its place; the last line says how many were right. */
+#include "tirnavoy.h"
+
+#if !defined(__has_include)
+#include <stdio.h>
+#elif __has_include(<stddef.h>) && __has_include(<stdio.h>)
+#include <stdio.h>
+#else
+#ifdef __cplusplus
+extern "C"
+#endif
+int printf(const char *format, ...);
+#endif
+
+enum { W = 1, S = 8, N = 5, ROOM = 6, UNTOUCHED = 77 };
+enum { STARTS = TIRNAVOY_STARTS_LENGTH(W, S), IDS = TIRNAVOY_IDS_LENGTH(W, S, N), MARKS = TIRNAVOY_MARK_WORDS(N) };
+
+/* catalogue A, and the query 3 */
+static const uint32_t stars[N] = {10, 10, 20, 30, 40};
+static const uint64_t codes[N] = {0, 1, 0xFF, 0xFFFFFFFFFFFFFFFFu, 0x0101010101010101u};
+static const uint64_t query[W] = {3};
+static uint32_t starts[STARTS], ids[IDS], entries[ROOM], distances[ROOM];
+static uint64_t marks[MARKS];
+static unsigned passed, failed;
+
+static void expect(int line, uint64_t got, uint64_t expected) {
+    if (got == expected) {
+        passed++;
+        return;
+    }
+    failed++;
+    printf("line %d: %llu, and %llu was expected\n", line, (unsigned long long)got, (unsigned long long)expected);
+}
+
+static void lists(int line, const uint32_t *expected_entries, const uint32_t *expected_distances) {
+    for (int p = 0; p < ROOM; p++) {
+        expect(line, entries[p], expected_entries[p]);
+        expect(line, distances[p], expected_distances[p]);
+    }
+    expect(line, marks[0], 0);
+}
+
+/* what a search reports, in the order of its outs */
+static const char *const outs[] = {"answers", "opened", "tested", "table", "bucket"};
+
+static void search(int line, int radius, uint32_t number, size_t room, uint32_t refusal, const uint32_t *expected) {
+    uint32_t got[5], returned;
+    for (int p = 0; p < ROOM; p++) entries[p] = distances[p] = UNTOUCHED;
+    marks[0] = UNTOUCHED;
+    if (radius)
+        returned = tirnavoy_within(W, S, stars, N, codes, N, starts, STARTS, ids, IDS, query, W, number, marks, MARKS, entries, room, distances, room, &got[0], &got[1], &got[2], &got[3],
+                                   &got[4]);
+    else
+        returned = tirnavoy_nearest(W, S, stars, N, codes, N, starts, STARTS, ids, IDS, query, W, number, marks, MARKS, entries, room, distances, room, &got[0], &got[1], &got[2], &got[3],
+                                    &got[4]);
+    expect(line, returned, refusal);
+    for (int o = 0; o < 5; o++) {
+        if (got[o] != expected[o]) printf("%s: ", outs[o]);
+        expect(line, got[o], expected[o]);
+    }
+}
+
+static void nearest(void) {
+    const uint32_t p1[] = {0, 0, 0, 0, 0}, p2[] = {1, 2, 3, 0, 0}, p3[] = {2, 3, 3, 0, 0}, p4[] = {4, 16, 4, 0, 0}, p5[] = {5, 2032, 5, 0, 0};
+    const uint32_t none[] = {77, 77, 77, 77, 77, 77}, e4[] = {1, 0, 2, 4, 77, 77}, d4[] = {1, 2, 6, 8, 77, 77}, e5[] = {1, 0, 2, 4, 3, 77}, d5[] = {1, 2, 6, 8, 62, 77};
+    search(__LINE__, 0, 0, ROOM, TIRNAVOY_NONE, p1);
+    lists(__LINE__, none, none);
+    search(__LINE__, 0, 1, ROOM, TIRNAVOY_NONE, p2);
+    search(__LINE__, 0, 2, ROOM, TIRNAVOY_NONE, p3);
+    search(__LINE__, 0, 4, ROOM, TIRNAVOY_NONE, p4);
+    lists(__LINE__, e4, d4);
+    search(__LINE__, 0, 9, ROOM, TIRNAVOY_NONE, p5);
+    lists(__LINE__, e5, d5);
+    search(__LINE__, 0, 9, 4, TIRNAVOY_ROOM, p1);
+}
+
+static void within(void) {
+    const uint32_t refused[] = {0, 0, 0, 0, 0}, p6[] = {0, 1, 0, 0, 0}, p7[] = {1, 2, 3, 0, 0}, all[] = {5, 2041, 5, 0, 0}, six[] = {1, 0, 0, 0, 0};
+    const uint32_t e7[] = {1, 0, 0, 0, 0, 77}, d7[] = {1, 0, 0, 0, 0, 77};
+    search(__LINE__, 1, 0, ROOM, TIRNAVOY_NONE, p6);
+    search(__LINE__, 1, 1, ROOM, TIRNAVOY_NONE, p7);
+    lists(__LINE__, e7, d7);
+    search(__LINE__, 1, 64, ROOM, TIRNAVOY_NONE, all);
+    search(__LINE__, 1, 65, ROOM, TIRNAVOY_QUERY, refused);
+    search(__LINE__, 1, 1, 0, TIRNAVOY_TOO_MANY, six);
+}
+
+static void verdict(int line, uint32_t t, uint32_t g, const uint32_t *expected) {
+    uint32_t got[9];
+    expect(line, tirnavoy_verdict(W, S, stars, N, codes, N, starts, STARTS, ids, IDS, query, W, t, g, marks, MARKS, &got[0], &got[1], &got[2], &got[3], &got[4], &got[5], &got[6], &got[7], &got[8]),
+           TIRNAVOY_NONE);
+    for (int o = 0; o < 9; o++) expect(line, got[o], expected[o]);
+}
+
+static void verdicts(void) {
+    const uint32_t p10[] = {TIRNAVOY_NO_FIELD, 0, 0, 0, 0, 3, 3, 0, 0}, unsure[] = {TIRNAVOY_UNSURE, 10, 10, 1, 2, 3, 3, 0, 0}, match[] = {TIRNAVOY_MATCH, 10, 0, 1, 0, 3, 3, 0, 0};
+    verdict(__LINE__, 0, 0, p10);
+    verdict(__LINE__, 4, 3, unsure);
+    verdict(__LINE__, 4, 1, match);
+}
+
+static void sky(int line, int radians, double across, double up, uint32_t refusal, uint64_t expected) {
+    uint64_t code = UNTOUCHED;
+    uint32_t place = UNTOUCHED;
+    expect(line, (radians ? tirnavoy_sky_radians : tirnavoy_sky_degrees)(&across, 1, &up, 1, &code, &place), refusal);
+    expect(line, code, expected);
+    expect(line, place, 0);
+}
+
+static void skies(void) {
+    const double none = 0;
+    uint64_t code;
+    uint32_t place;
+    sky(__LINE__, 0, -4, -0.0, TIRNAVOY_NONE, (uint64_t)1 << (8 * 4 + 0));
+    sky(__LINE__, 0, -0.0, -4, TIRNAVOY_NONE, (uint64_t)1 << (8 * 0 + 4));
+    sky(__LINE__, 0, 4, 0, TIRNAVOY_OUTSIDE, 0);
+    sky(__LINE__, 0, 0.06, 0, TIRNAVOY_NONE, (uint64_t)1 << (8 * 4 + 4));
+    sky(__LINE__, 1, 0.06, 0, TIRNAVOY_NONE, (uint64_t)1 << (8 * 4 + 7));
+    sky(__LINE__, 1, 0.07, 0, TIRNAVOY_OUTSIDE, 0);
+    expect(__LINE__, tirnavoy_sky_degrees(&none, 1, &none, 0, &code, &place), TIRNAVOY_OFFSETS);
+}
+
+static void tables(void) {
+    const uint32_t unsound[] = {0, 0, 0, 0, 3};
+    uint32_t sound = UNTOUCHED;
+    expect(__LINE__, tirnavoy_build(W, S, stars, N, codes, N, starts, STARTS - 1, ids, IDS), TIRNAVOY_TABLES);
+    expect(__LINE__, tirnavoy_build(W, S, stars, N, codes, N, starts, STARTS, ids, IDS), TIRNAVOY_NONE);
+    expect(__LINE__, tirnavoy_check(W, S, stars, N, codes, N, starts, STARTS, ids, IDS, &sound), TIRNAVOY_NONE);
+    expect(__LINE__, sound, 1);
+    starts[4]++; /* the end of table 0's bucket 3, the first that query 3 opens: it now lists an entry of another bucket */
+    expect(__LINE__, tirnavoy_check(W, S, stars, N, codes, N, starts, STARTS, ids, IDS, &sound), TIRNAVOY_NONE);
+    expect(__LINE__, sound, 0);
+    search(__LINE__, 0, 1, ROOM, TIRNAVOY_BAD_BUCKET, unsound);
+    starts[4]--;
+}
+
+static void blackboard(void) {
+    uint32_t buckets = UNTOUCHED;
+    expect(__LINE__, tirnavoy_blackboard(W, S, 62, &buckets), TIRNAVOY_NONE);
+    expect(__LINE__, buckets, 2032);
+    expect(__LINE__, tirnavoy_blackboard(W, S, 65, &buckets), TIRNAVOY_QUERY);
+    expect(__LINE__, buckets, 0);
+}
+
+int main(void) {
+    tables();
+    nearest();
+    within();
+    verdicts();
+    blackboard();
+    skies();
+    printf("%u passed, %u failed\n", passed, failed);
+    return failed != 0;
+}

@@ -1,0 +1,270 @@
+//! Calls to compare: drawn over all shapes with every refusal in reach; of any numbers and lengths at all; at the border of the scope; or by a fuzzer's bytes.
+#![allow(dead_code)]
+use crate::calls::{run_blackboard, run_build, run_check, run_search, run_sky, run_verdict, Call};
+use crate::random::Random;
+use crate::reference::{self, Lists};
+
+const PER_RADIAN: f64 = 57.29577951308232;
+
+/// What a list holds before a call that should fill it.
+const STALE: u32 = 0xCCCC_CCCC;
+
+fn words(count: usize, rng: &mut Random) -> Vec<u64> {
+    (0..count).map(|_| rng.next()).collect()
+}
+
+fn flipped(code: &[u64], flips: u64, rng: &mut Random) -> Vec<u64> {
+    let mut out = code.to_vec();
+    for _ in 0..flips {
+        if !out.is_empty() {
+            let j = rng.below(64 * out.len() as u64) as usize;
+            out[j / 64] ^= 1 << (j % 64);
+        }
+    }
+    out
+}
+
+fn random_shape(rng: &mut Random) -> (u32, u32) {
+    if rng.one_in(40) {
+        let odd = [0, 1, 2, 3, 4, 5, 8, 16, 17, 64, 256, u32::MAX, 1 << 16, 8 + (1 << 31)];
+        return (rng.pick(&odd), rng.pick(&odd));
+    }
+    (rng.pick(&[1, 1, 2, 4]), if rng.one_in(60) { 16 } else { rng.pick(&[4, 8]) })
+}
+
+/// Codes near a centre, equal to the first one, or anywhere.
+fn random_codes(n: usize, width: usize, centre: &[u64], rng: &mut Random) -> Vec<u64> {
+    let mut codes: Vec<u64> = Vec::new();
+    for i in 0..n {
+        let code = match rng.below(4) {
+            0 if i > 0 => codes[..width].to_vec(),
+            1 => flipped(centre, 3, rng),
+            2 => flipped(centre, 20, rng),
+            _ => words(width, rng),
+        };
+        codes.extend(code);
+    }
+    if rng.one_in(50) {
+        codes.pop();
+    } else if rng.one_in(50) {
+        codes.push(rng.next());
+    }
+    codes
+}
+
+/// A query at some distance from the first entry; now and then a word too long.
+fn random_query(codes: &[u64], centre: &[u64], rng: &mut Random) -> Vec<u64> {
+    let first = codes.get(..centre.len()).unwrap_or(centre);
+    let mut query = flipped(first, rng.pick(&[0, 0, 1, 3, 9, 40]), rng);
+    if rng.one_in(50) {
+        query.push(0);
+    }
+    query
+}
+
+/// Damage of every kind: a start or an id one off, out of range, repeated, exchanged, or any number at all.
+fn damage(list: &mut [u32], n: u32, rng: &mut Random) {
+    if list.is_empty() {
+        return;
+    }
+    let p = rng.below(list.len() as u64) as usize;
+    let o = rng.below(list.len() as u64) as usize;
+    match rng.below(6) {
+        0 => list[p] = list[p].wrapping_add(1),
+        1 => list[p] = list[p].wrapping_sub(1),
+        2 => list[p] = n,
+        3 => list[p] = list[o],
+        4 => list.swap(p, o),
+        _ => list[p] = rng.next() as u32,
+    }
+}
+
+/// A length at, just below or above what is needed.
+fn about(needed: usize, rng: &mut Random) -> usize {
+    match rng.below(40) {
+        0 => needed.saturating_sub(1),
+        1 => rng.below(needed as u64 + 1) as usize,
+        2..=12 => needed + rng.below(9) as usize,
+        _ => needed,
+    }
+}
+
+/// A distance from 0 to q, and on both sides of q.
+fn random_limit(q: u32, rng: &mut Random) -> u32 {
+    let any = rng.below(q as u64 + 1) as u32;
+    rng.pick(&[0, 1, 2, 3, 8, any, any, q, q + 1, u32::MAX])
+}
+
+/// How many answers are asked for: few, all, or more than there are.
+fn random_count(n: usize, rng: &mut Random) -> u32 {
+    let any = rng.below(n as u64 + 1) as u32;
+    rng.pick(&[0, 1, 2, 3, n as u32, n as u32 + 1, u32::MAX, any])
+}
+
+fn random_lists(n: usize, number: u32, rng: &mut Random) -> Lists {
+    let room = (number as usize).min(n);
+    let marks = about((n + 63) / 64, rng);
+    Lists { marks: words(marks, rng), entries: vec![0x1111_1111; about(room, rng)], distances: vec![0x2222_2222; about(room, rng)] }
+}
+
+/// A catalogue with planted near neighbours and equal codes, and what a search of it is lent; the tables are still empty.
+fn random_call(rng: &mut Random) -> Call {
+    let (w, s) = random_shape(rng);
+    let width = if reference::listed(w, s) { w as usize } else { 1 };
+    let tables = if reference::listed(w, s) { 64 * width / s as usize } else { 0 };
+    let n = rng.pick(&[0, 1, 2, 3, 5, 17, 63, 64, 65, 130, 300]) as usize;
+    let centre = words(width, rng);
+    let codes = random_codes(n, width, &centre, rng);
+    let stars = (0..n).map(|_| rng.below(5) as u32 * 7).collect();
+    let starts = vec![STALE; if tables > 0 { about(tables * ((1 << s) + 1), rng) } else { 0 }];
+    let ids = vec![STALE; about(tables * n, rng)];
+    let query = random_query(&codes, &centre, rng);
+    let q = 64 * width as u32;
+    let number = if rng.one_in(2) { random_count(n, rng) } else { random_limit(q, rng) };
+    let gap = random_limit(q, rng);
+    let lists = random_lists(n, number, rng);
+    Call { w, s, stars, codes, starts, ids, query, number, gap, lists }
+}
+
+/// The tables of a call as the builder writes them; in one call of three with some damage.
+fn with_tables(mut call: Call, rng: &mut Random) -> Call {
+    let (_, starts, ids) = reference::build(&call.index());
+    (call.starts, call.ids) = (starts, ids);
+    if rng.one_in(3) {
+        let n = call.stars.len() as u32;
+        for _ in 0..rng.pick(&[1, 1, 2, 5, 40]) {
+            let list = if rng.one_in(2) { &mut call.starts } else { &mut call.ids };
+            damage(list, n, rng);
+        }
+    }
+    call
+}
+
+fn random_angle(rng: &mut Random) -> f64 {
+    let unit = rng.below(1 << 53) as f64 / (1u64 << 53) as f64;
+    match rng.below(6) {
+        0 => unit * 8.0 - 4.0,
+        1 => (unit * 8.0 - 4.0) / PER_RADIAN,
+        2 => rng.below(11) as f64 - 5.0,
+        3 => (rng.below(11) as f64 - 5.0) / PER_RADIAN,
+        4 => f64::from_bits(rng.next()),
+        _ => rng.pick(&[-4.0, 4.0, -0.0, 0.0, f64::NAN, f64::INFINITY, f64::NEG_INFINITY, 1e308, -1e308, 0.06, 0.07]),
+    }
+}
+
+fn any_sky(rng: &mut Random) -> Result<u32, String> {
+    let n = if rng.one_in(400) { 4090 + rng.below(12) as usize } else { rng.below(6) as usize };
+    let offsets = |rng: &mut Random, n: usize| (0..n).map(|_| if n > 10 { 0.01 } else { random_angle(rng) }).collect::<Vec<f64>>();
+    let across = offsets(rng, n);
+    let longer = rng.one_in(30) as usize;
+    let up = offsets(rng, n + longer);
+    run_sky(rng.one_in(2), &across, &up)
+}
+
+fn any_blackboard(rng: &mut Random) -> Result<u32, String> {
+    let (w, s) = random_shape(rng);
+    let step = rng.below(64 * w as u64 + 3) as u32;
+    run_blackboard(w, s, if rng.one_in(20) { rng.next() as u32 } else { step })
+}
+
+fn run_call(which: u64, call: &Call) -> Result<u32, String> {
+    let outcome = match which % 8 {
+        0 => run_build(call),
+        1 => run_check(call),
+        2..=4 => run_search(call, false),
+        5 | 6 => run_search(call, true),
+        _ => run_verdict(call),
+    };
+    outcome.map_err(|error| format!("{error}\n{call:?}"))
+}
+
+/// A random call of any exported function; gives the number that it ended with.
+pub fn any_call(rng: &mut Random) -> Result<u32, String> {
+    match rng.below(10) {
+        0 => any_sky(rng),
+        1 => any_blackboard(rng),
+        which => {
+            let call = random_call(rng);
+            run_call(which, &with_tables(call, rng))
+        }
+    }
+}
+
+/// Calls at the border of the scope: 65,536 and 65,537 entries.
+pub fn large(rng: &mut Random, refusals: &mut [u64; 11]) -> Result<(), String> {
+    for (w, s, n) in [(1u32, 16u32, 65536usize), (2, 16, 65536), (4, 8, 65536), (2, 16, 65537)] {
+        let width = w as usize;
+        let codes = words(n * width, rng);
+        let m = 64 * width / s as usize;
+        let query = flipped(&codes[40 * width..41 * width], 5, rng);
+        let lists = |places: usize, rng: &mut Random| Lists { marks: words(1026, rng), entries: vec![1; places + 1], distances: vec![2; places] };
+        let mut call = Call { w, s, stars: (0..n as u32).collect(), codes, starts: vec![9; m * ((1 << s) + 1) + 3], ids: vec![9; m * n + 3], query, number: 1, gap: 8, lists: lists(10, rng) };
+        let mut met = |number: u32| refusals[number as usize] += 1;
+        met(run_build(&call)?);
+        let (_, starts, ids) = reference::build(&call.index());
+        (call.starts, call.ids) = (starts, ids);
+        met(run_check(&call)?);
+        for (k, places) in [(1, 10), (10, 10), (10, 9), (65536, 65536)] {
+            call.number = k;
+            call.lists = lists(places, rng);
+            met(run_search(&call, false)?);
+        }
+        for r in [0, 5, 20] {
+            call.number = r;
+            met(run_search(&call, true)?);
+        }
+        met(run_verdict(&call)?);
+        call.ids[m * n - 1] ^= 1;
+        met(run_check(&call)?);
+    }
+    Ok(())
+}
+
+/// Any number, small ones as likely as large ones.
+fn any_number(rng: &mut Random) -> u32 {
+    let shift = rng.below(32);
+    (rng.next() as u32) >> shift
+}
+
+fn numbers(below: u64, rng: &mut Random) -> Vec<u32> {
+    (0..rng.below(below)).map(|_| any_number(rng)).collect()
+}
+
+fn some_words(below: u64, rng: &mut Random) -> Vec<u64> {
+    let count = rng.below(below) as usize;
+    words(count, rng)
+}
+
+/// A call whose lengths and numbers are anything.
+fn wild(rng: &mut Random) -> Result<u32, String> {
+    if rng.one_in(10) {
+        let (w, s, step) = (any_number(rng), any_number(rng), any_number(rng));
+        return run_blackboard(w, s, step);
+    }
+    if rng.one_in(10) {
+        let offsets = |rng: &mut Random| some_words(9, rng).into_iter().map(f64::from_bits).collect::<Vec<f64>>();
+        let (across, up) = (offsets(rng), offsets(rng));
+        return run_sky(rng.one_in(2), &across, &up);
+    }
+    let (w, s) = if rng.one_in(3) { (any_number(rng), any_number(rng)) } else { (rng.pick(&[1, 2, 4]), rng.pick(&[4, 8])) };
+    let stars = numbers(70, rng);
+    let width = w as usize % 5;
+    let codes = if rng.one_in(4) { some_words(300, rng) } else { words(stars.len() * width, rng) };
+    let query = if rng.one_in(4) { some_words(6, rng) } else { words(width, rng) };
+    let lists = Lists { marks: some_words(6, rng), entries: numbers(80, rng), distances: numbers(80, rng) };
+    let (number, gap, which) = (any_number(rng), any_number(rng), rng.below(8));
+    let small = |len: u64, rng: &mut Random| (0..len).map(|_| if rng.one_in(50) { rng.next() as u32 } else { rng.below(8) as u32 }).collect::<Vec<u32>>();
+    let (starts_len, ids_len) = (rng.below(9100), rng.below(4600));
+    let (starts, ids) = (small(starts_len, rng), small(ids_len, rng));
+    run_call(which, &Call { w, s, stars, codes, starts, ids, query, number, gap, lists })
+}
+
+/// The call that a fuzzer's bytes make: a drawn one or a wild one.
+pub fn from_bytes(bytes: &[u8]) -> Result<u32, String> {
+    let mut rng = Random::from_bytes(bytes);
+    if rng.one_in(2) {
+        any_call(&mut rng)
+    } else {
+        wild(&mut rng)
+    }
+}

@@ -1,0 +1,43 @@
+"""Prints what examples/simulator.c has to print, by the plain scans of reference.py: the same sky, the same four questions."""
+from reference import Catalogue, column
+
+FIELDS, STARS, REACH, GAP = 60, 14, 6, 3
+state = 2014
+
+
+def chance():
+    global state
+    state = (state * 6364136223846793005 + 1442695040888963407) % 2**64
+    return (state >> 11) / 2**53
+
+
+def code_of(field):
+    code = 0
+    for across, up in field:
+        code |= 1 << (8 * column(up, False) + column(across, False))
+    return code
+
+
+def ask(catalogue, what, field):
+    query = code_of(field)
+    found, buckets, tested = catalogue.nearest(query, 2)
+    (d, i), (e, j) = found
+    if d > REACH:
+        found, buckets, tested = catalogue.nearest(query, 1)
+        answer = f"none, the nearest field is at distance {found[0][0]}"
+    elif e - d < GAP:
+        answer = f"unsure, field {catalogue.stars[i]} at distance {d} or field {catalogue.stars[j]} at {e}"
+    else:
+        answer = f"field {catalogue.stars[i]} at distance {d}"
+    print(f"{what}: {answer} ({buckets} buckets, {tested} tested)")
+
+
+fields = [[(8 * chance() - 4, 8 * chance() - 4) for _ in range(STARS)] for _ in range(FIELDS)]
+catalogue = Catalogue(1)
+catalogue.stars = [1000 + f for f in range(FIELDS)]
+catalogue.codes = [code_of(field) for field in fields]
+shot = fields[7]
+ask(catalogue, "field 1007, whole", shot)
+ask(catalogue, "field 1007, two stars lost", shot[:-2])
+ask(catalogue, "field 1007, across and up exchanged", [(up, across) for across, up in shot])
+print(f"a star outside the field: refused {-column(9.0, False)} at star 0")
