@@ -1,14 +1,7 @@
 /* A small simulator: it draws a catalogue of fields, turns each into a code, takes a shot of one of them and asks which field it is.
  * Then it hands the same shot over with across and up exchanged: a nonsense code is far from everything, and the verdict says so. */
+#include <stdio.h>
 #include "tirnavoy.h"
-
-#if !defined(__has_include)
-#include <stdio.h>
-#elif __has_include(<stddef.h>) && __has_include(<stdio.h>)
-#include <stdio.h>
-#else
-int printf(const char *format, ...);
-#endif
 
 enum { W = 1, S = 8, FIELDS = 60, STARS = 14, REACH = 6, GAP = 3 };
 enum { STARTS = TIRNAVOY_STARTS_LENGTH(W, S), IDS = TIRNAVOY_IDS_LENGTH(W, S, FIELDS), MARKS = TIRNAVOY_MARK_WORDS(FIELDS) };

@@ -9,17 +9,8 @@
 #ifndef TIRNAVOY_H
 #define TIRNAVOY_H
 
-#if !defined(__has_include)
 #include <stddef.h>
 #include <stdint.h>
-#elif __has_include(<stddef.h>) && __has_include(<stdint.h>)
-#include <stddef.h>
-#include <stdint.h>
-#else /* a compiler without a C library */
-typedef __UINT32_TYPE__ uint32_t;
-typedef __UINT64_TYPE__ uint64_t;
-typedef __SIZE_TYPE__ size_t;
-#endif
 
 #ifdef __cplusplus
 extern "C" {

@@ -1,17 +1,7 @@
 /* Document 01's worked examples, asked through the header: every exported function and every out of it. C99 and C++.
  * A wrong value is printed with its place; the last line says how many were right. */
+#include <stdio.h>
 #include "tirnavoy.h"
-
-#if !defined(__has_include)
-#include <stdio.h>
-#elif __has_include(<stddef.h>) && __has_include(<stdio.h>)
-#include <stdio.h>
-#else
-#ifdef __cplusplus
-extern "C"
-#endif
-int printf(const char *format, ...);
-#endif
 
 enum { W = 1, S = 8, N = 5, ROOM = 6, UNTOUCHED = 77 };
 enum { STARTS = TIRNAVOY_STARTS_LENGTH(W, S), IDS = TIRNAVOY_IDS_LENGTH(W, S, N), MARKS = TIRNAVOY_MARK_WORDS(N) };
