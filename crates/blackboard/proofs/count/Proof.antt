@@ -32,7 +32,8 @@ open-after-requires c κs = (is-listed (c .before .before), c .if2 .left)
 
 returns-3 : tie.Need-returns-3
 returns-3 c =
-    ap (λ (k : ℕ). Buckets (record { 0 = k })) (c .open-after .ensures) ∙ sym (answered _ _ (is-listed (c .before .before .before)) (c .before .if2 .left))
+    let else1 : tie.Else1 = search in
+    ap (λ (k : ℕ). Buckets (record { 0 = k })) (c .open-after .ensures) ∙ sym (answered _ _ (is-listed else1) (c .before .if2 .left))
 
 pub count-spec : {M : Type 1} → statement M
 count-spec = tie.close (tie.spec listed-requires returns mul-q returns-2 open-after-requires returns-3)

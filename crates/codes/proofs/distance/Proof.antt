@@ -53,9 +53,10 @@ shared-slice-read-r-2 c = search needs
 
 add-r-2 : tie.Need-add-r-2 Inv-loop μ-loop
 add-r-2 c =
-    let a = c .before .before .before .before .args in
-    let k = c .before .before .before .loop .k in
-    omega (arith, step c, distance-le (64 * (k + 1)) (codeOf (a .w) (a .codes .now) (a .i)) (a .query .now))
+    let at-loop : tie.At-loop Inv-loop μ-loop = search in
+    let a : tie.Start Inv-loop μ-loop = search in
+    let k = at-loop .loop .k in
+    omega (arith, step c, distance-le (64 * (k + 1)) (codeOf (a .args .w) (a .args .codes .now) (a .args .i)) (a .args .query .now))
 
 add-k : tie.Need-add-k Inv-loop μ-loop
 add-k c = search needs

@@ -32,9 +32,9 @@ substring-requires c κs = search needs
 returns : tie.Need-returns
 unfolding codeOf
 returns c =
-    let a = c .before .before .before .args in
-    let e : a .i * a .w + a .w - a .i * a .w ≡ a .w = omega arith in
-    c .substring .ensures ∙ ap (λ (n : ℕ). substring (a .from) (a .len) (take n (drop (a .i * a .w) (a .codes .now)))) e
+    let a : tie.Start = search in
+    let e : a .args .i * a .args .w + a .args .w - a .args .i * a .args .w ≡ a .args .w = omega arith in
+    c .substring .ensures ∙ ap (λ (n : ℕ). substring (a .args .from) (a .args .len) (take n (drop (a .args .i * a .args .w) (a .args .codes .now)))) e
 
 pub entry-substring-spec : {M : Type 1} → statement M
 entry-substring-spec =

@@ -88,16 +88,16 @@ returns c =
 
 returns-2 : tie.Need-returns-2
 returns-2 c =
-    let a = c .before .before .before .args in
-    let word = c .shared-slice-known3 .given (a .from / 64) in
-    crossed (a .from) (a .len) (a .code .now) (omega arith) (omega arith) (omega arith)
+    let a : tie.Start = search in
+    let word = c .shared-slice-known3 .given (a .args .from / 64) in
+    crossed (a .args .from) (a .args .len) (a .args .code .now) (omega arith) (omega arith) (omega arith)
 
 -- the sum is a number of len bits
 add-result : tie.Need-add-result
 add-result c =
-    let a = c .before .before .before .args in
-    let small : 2 ^ a .len ≤ 2 ^ 32 = pow-mono {j = 32} (omega arith) in
-    omega (arith, returns-2 c, substring-lt (a .from) (a .len) (a .code .now))
+    let a : tie.Start = search in
+    let small : 2 ^ a .args .len ≤ 2 ^ 32 = pow-mono {j = 32} (omega arith) in
+    omega (arith, returns-2 c, substring-lt (a .args .from) (a .args .len) (a .args .code .now))
 
 pub substring-spec : {M : Type 1} → statement M
 substring-spec =

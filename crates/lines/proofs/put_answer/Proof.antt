@@ -18,7 +18,9 @@ same-length c = search needs
 
 returns : tie.Need-returns
 returns c =
-    record { wrote = field-more (c .before .before .before .before .before .before .before .before .before .before .put-number .ensures) (field-more (c .before .before .before .before .before .before .put-number2 .ensures) (c .before .before .put-number3 .ensures .wrote)); short = search needs }
+    let at-put-number2 : tie.After-put-number2 = search in
+    let at-put-number : tie.After-put-number = search in
+    record { wrote = field-more (at-put-number .put-number .ensures) (field-more (at-put-number2 .put-number2 .ensures) (c .before .before .put-number3 .ensures .wrote)); short = search needs }
 
 pub put-answer-spec : {M : Type 1} → statement M
 put-answer-spec =

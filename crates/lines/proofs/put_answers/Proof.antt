@@ -43,14 +43,19 @@ loop-less : tie.Need-loop-less Inv-loop μ-loop
 loop-less c = search needs
 
 loop-again : tie.Need-loop-again Inv-loop μ-loop
-loop-again c = listing-more _ _ _ _ _ _ _ _ _ _ _ _ (c .before .before .before .before .before .before .before .before .loop .inv) (c .before .before .before .before .before .before .before .loop-test .taken) (c .before .before .before .star-of .ensures) (c .before .before .put-answer .ensures) (c .before .before .put-answer .kept .0)
+loop-again c =
+    let at-star-of : tie.After-star-of Inv-loop μ-loop = search in
+    let in-loop : tie.In-loop Inv-loop μ-loop = search in
+    let at-loop : tie.At-loop Inv-loop μ-loop = search in
+    listing-more _ _ _ _ _ _ _ _ _ _ _ _ (at-loop .loop .inv) (in-loop .loop-test .taken) (at-star-of .star-of .ensures) (c .before .before .put-answer .ensures) (c .before .before .put-answer .kept .0)
 
 same-length : tie.Need-same-length Inv-loop μ-loop
 same-length c = search needs
 
 returns : tie.Need-returns Inv-loop μ-loop
 returns c =
-    let e : c .before .loop .i ≡ c .before .before .before .before .before .before .args .n = omega arith in
+    let s : tie.Start Inv-loop μ-loop = search in
+    let e : c .before .loop .i ≡ s .args .n = omega arith in
     record { wrote = rw e at (c .before .loop .inv .wrote); short = omega (arith, c .before .loop .inv .short) }
 
 pub put-answers-spec : {M : Type 1} → statement M

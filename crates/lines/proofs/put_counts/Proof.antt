@@ -24,8 +24,12 @@ same-length c = search needs
 
 returns : tie.Need-returns
 returns c =
+    let at-put-number3 : tie.After-put-number3 = search in
+    let at-put-number2 : tie.After-put-number2 = search in
+    let at-put-word : tie.After-put-word = search in
+    let at-put-number : tie.After-put-number = search in
     record {
-      wrote = field-more (c .before .before .before .before .before .before .before .before .before .before .before .before .before .before .before .before .before .before .put-number .ensures) (field-more (c .before .before .before .before .before .before .before .before .before .before .before .before .before .before .put-word .ensures) (field-more (c .before .before .before .before .before .before .before .before .before .before .put-number2 .ensures) (field-more (c .before .before .before .before .before .before .put-number3 .ensures) (c .before .before .put-number4 .ensures .wrote))));
+      wrote = field-more (at-put-number .put-number .ensures) (field-more (at-put-word .put-word .ensures) (field-more (at-put-number2 .put-number2 .ensures) (field-more (at-put-number3 .put-number3 .ensures) (c .before .before .put-number4 .ensures .wrote))));
       short = search needs;
     }
 

@@ -17,7 +17,11 @@ cast-put-answers : tie.Need-cast-put-answers
 cast-put-answers c = search needs
 
 put-answers-requires : tie.Need-put-answers-requires
-put-answers-requires c κs = omega (arith, ap answersOf (c .before .before .before .before .before .before .before .found .given .1), c .before .before .before .before .before .before .before .before .before .before .before .before .before .before .pre .0, c .before .before .before .before .before .before .before .before .before .before .before .before .before .before .pre .1, c .before .before .before .before .put-counts .ensures .short, c .before .before .before .before .put-counts .kept .0)
+put-answers-requires c κs =
+    let at-put-counts : tie.After-put-counts = search in
+    let at-found : tie.After-found = search in
+    let s : tie.Start = search in
+    omega (arith, ap answersOf (at-found .found .given .1), s .pre .0, s .pre .1, at-put-counts .put-counts .ensures .short, at-put-counts .put-counts .kept .0)
 
 enum-known-found-2 : tie.Need-enum-known-found-2
 enum-known-found-2 c = search needs
@@ -30,10 +34,12 @@ same-length c = search needs
 
 returns : tie.Need-returns
 returns c =
-    rw (c .before .before .before .before .before .before .before .before .before .before .found .given .1)
+    let at-put-counts : tie.After-put-counts = search in
+    let at-found : tie.After-found = search in
+    rw (at-found .found .given .1)
     (record {
-      wrote = wrote-more (c .before .before .before .before .before .before .before .put-counts .ensures .wrote) (c .before .before .put-answers .ensures .wrote);
-      short = omega (arith, c .before .before .before .before .before .before .before .put-counts .ensures .short, c .before .before .put-answers .ensures .short);
+      wrote = wrote-more (at-put-counts .put-counts .ensures .wrote) (c .before .before .put-answers .ensures .wrote);
+      short = omega (arith, at-put-counts .put-counts .ensures .short, c .before .before .put-answers .ensures .short);
     })
 
 same-length-2 : tie.Need-same-length-2
@@ -41,7 +47,8 @@ same-length-2 c = search needs
 
 returns-2 : tie.Need-returns-2
 returns-2 c =
-    rw (c .before .before .before .before .before .found2 .given .1)
+    let at-found2 : tie.After-found2 = search in
+    rw (at-found2 .found2 .given .1)
     (record { wrote = c .before .before .put-refused .ensures .wrote; short = omega (arith, c .before .before .put-refused .ensures .short) })
 
 pub put-found-spec : {M : Type 1} → statement M

@@ -19,14 +19,17 @@ same-length : tie.Need-same-length
 same-length c = search needs
 
 returns : tie.Need-returns
-returns c = rw (c .before .before .before .before .before .judged .given .1) (c .before .before .put-verdict .ensures)
+returns c =
+    let at-judged : tie.After-judged = search in
+    rw (at-judged .judged .given .1) (c .before .before .put-verdict .ensures)
 
 same-length-2 : tie.Need-same-length-2
 same-length-2 c = search needs
 
 returns-2 : tie.Need-returns-2
 returns-2 c =
-    rw (c .before .before .before .before .before .judged2 .given .1) (c .before .before .put-refused .ensures)
+    let at-judged2 : tie.After-judged2 = search in
+    rw (at-judged2 .judged2 .given .1) (c .before .before .put-refused .ensures)
 
 pub put-judged-spec : {M : Type 1} → statement M
 put-judged-spec =

@@ -9,7 +9,9 @@ use Rattle.lines.proofs.put_number.Statement.{statement}
 use Rattle.lines.proofs.put_number.Tie as tie
 
 room : (c : tie.After-slice-known2) → c .before .before .put-digits .result < length (c .before .before .put-digits .last .0)
-room c = omega (arith, c .before .before .put-digits .ensures .place, c .before .before .put-digits .kept .0, decimal-short (c .before .before .before .before .before .args .n) (c .before .before .before .before .before .fits .n .fits))
+room c =
+    let s : tie.Start = search in
+    omega (arith, c .before .before .put-digits .ensures .place, c .before .before .put-digits .kept .0, decimal-short (s .args .n) (s .fits .n .fits))
 
 put-digits-requires : tie.Need-put-digits-requires
 put-digits-requires c κs = omega (arith, decimal-short (c .before .before .args .n) (c .before .before .fits .n .fits))
@@ -25,9 +27,10 @@ same-length c = search needs
 
 returns : tie.Need-returns
 returns c =
+    let s : tie.Start = search in
     record {
       wrote = wrote-more (c .before .before .put-digits .ensures) (wrote-byte _ _ _);
-      short = omega (arith, c .before .before .put-digits .ensures .place, decimal-short (c .before .before .before .before .before .args .n) (c .before .before .before .before .before .fits .n .fits));
+      short = omega (arith, c .before .before .put-digits .ensures .place, decimal-short (s .args .n) (s .fits .n .fits));
     }
 
 pub put-number-spec : {M : Type 1} → statement M

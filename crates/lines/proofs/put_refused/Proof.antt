@@ -24,8 +24,11 @@ same-length c = search needs
 
 returns : tie.Need-returns
 returns c =
-    rw (← c .before .before .before .number .ensures)
-    (record { wrote = field-more (c .before .before .before .before .before .before .before .before .before .before .before .before .put-number .ensures) (field-more (c .before .before .before .before .before .before .before .put-word .ensures) (c .before .before .put-number2 .ensures .wrote)); short = search needs })
+    let at-number : tie.After-number = search in
+    let at-put-word : tie.After-put-word = search in
+    let at-put-number : tie.After-put-number = search in
+    rw (← at-number .number .ensures)
+    (record { wrote = field-more (at-put-number .put-number .ensures) (field-more (at-put-word .put-word .ensures) (c .before .before .put-number2 .ensures .wrote)); short = search needs })
 
 pub put-refused-spec : {M : Type 1} → statement M
 put-refused-spec =

@@ -10,7 +10,9 @@ use Rattle.lines.proofs.put_sky.Statement.{statement}
 use Rattle.lines.proofs.put_sky.Tie as tie
 
 room : (c : tie.After-slice-known4) → c .before .before .put-hex .result < length (c .before .before .put-hex .last .0)
-room c = omega (arith, c .before .before .put-hex .ensures .place, c .before .before .put-hex .kept .0, hex-length 16 (c .before .before .before .before .before .before .before .before .before .before .before .before .before .before .sky .given .0 .0))
+room c =
+    let at-sky : tie.After-sky = search in
+    omega (arith, c .before .before .put-hex .ensures .place, c .before .before .put-hex .kept .0, hex-length 16 (at-sky .sky .given .0 .0))
 
 enum-known-sky : tie.Need-enum-known-sky
 enum-known-sky c = search needs
@@ -41,21 +43,28 @@ put-refused-requires c κs = search needs
 
 same-length : tie.Need-same-length
 same-length c =
-    simp length-set (c .before .before .put-hex .kept .0 ∙ c .before .before .before .before .before .before .put-word .kept .0 ∙ c .before .before .before .before .before .before .before .before .before .before .before .put-number .kept .0)
+    let at-put-word : tie.After-put-word = search in
+    let at-put-number : tie.After-put-number = search in
+    simp length-set (c .before .before .put-hex .kept .0 ∙ at-put-word .put-word .kept .0 ∙ at-put-number .put-number .kept .0)
 
 returns : tie.Need-returns
 returns c =
-    rw (c .before .before .before .before .before .before .before .before .before .before .before .before .before .before .sky .given .1)
+    let at-put-word : tie.After-put-word = search in
+    let at-put-number : tie.After-put-number = search in
+    let at-sky : tie.After-sky = search in
+    rw (at-sky .sky .given .1)
     (record {
-      wrote = field-more (c .before .before .before .before .before .before .before .before .before .before .before .put-number .ensures) (field-more (c .before .before .before .before .before .before .put-word .ensures) (wrote-more (c .before .before .put-hex .ensures) (wrote-byte _ _ _)));
-      short = omega (arith, c .before .before .put-hex .ensures .place, hex-length 16 (c .before .before .before .before .before .before .before .before .before .before .before .before .before .before .sky .given .0 .0));
+      wrote = field-more (at-put-number .put-number .ensures) (field-more (at-put-word .put-word .ensures) (wrote-more (c .before .before .put-hex .ensures) (wrote-byte _ _ _)));
+      short = omega (arith, c .before .before .put-hex .ensures .place, hex-length 16 (at-sky .sky .given .0 .0));
     })
 
 same-length-2 : tie.Need-same-length-2
 same-length-2 c = search needs
 
 returns-2 : tie.Need-returns-2
-returns-2 c = rw (c .before .before .before .before .before .sky2 .given .1) (c .before .before .put-refused .ensures)
+returns-2 c =
+    let at-sky2 : tie.After-sky2 = search in
+    rw (at-sky2 .sky2 .given .1) (c .before .before .put-refused .ensures)
 
 pub put-sky-spec : {M : Type 1} → statement M
 put-sky-spec =

@@ -18,7 +18,8 @@ same-length c = search needs
 
 returns : tie.Need-returns
 returns c =
-    record { wrote = field-more (c .before .before .before .before .before .before .put-word .ensures) (c .before .before .put-number .ensures .wrote); short = search needs }
+    let at-put-word : tie.After-put-word = search in
+    record { wrote = field-more (at-put-word .put-word .ensures) (c .before .before .put-number .ensures .wrote); short = search needs }
 
 pub put-stars-spec : {M : Type 1} → statement M
 put-stars-spec =

@@ -58,20 +58,28 @@ same-length c = search needs
 
 returns : tie.Need-returns
 returns c =
-    rw (c .before .before .before .before .before .enum-told .given .1)
-    (record { wrote = field-more (c .before .before .before .before .before .before .before .before .before .put-number .ensures) (c .before .before .put-word .ensures .wrote); short = search needs })
+    let at-enum-told : tie.After-enum-told = search in
+    let at-put-number : tie.After-put-number = search in
+    rw (at-enum-told .enum-told .given .1)
+    (record { wrote = field-more (at-put-number .put-number .ensures) (c .before .before .put-word .ensures .wrote); short = search needs })
 
 same-length-2 : tie.Need-same-length-2
 same-length-2 c = search needs
 
 returns-2 : tie.Need-returns-2
 returns-2 c =
-    rw (c .before .before .before .before .before .before .before .before .before .before .before .before .before .before .before .before .before .before .before .before .before .before .verdict .given .1)
+    let at-put-number4 : tie.After-put-number4 = search in
+    let at-put-number3 : tie.After-put-number3 = search in
+    let at-put-number2 : tie.After-put-number2 = search in
+    let at-put-word2 : tie.After-put-word2 = search in
+    let at-verdict : tie.After-verdict = search in
+    let at-put-number : tie.After-put-number = search in
+    rw (at-verdict .verdict .given .1)
     (record {
       wrote =
-          field-more (c .before .before .before .before .before .before .before .before .before .before .before .before .before .before .before .before .before .before .before .before .before .before .before .before .before .before .put-number .ensures) (field-more (c .before .before .before .before .before .before .before .before .before .before .before .before .before .before .before .before .before .before .put-word2 .ensures) (field-more (c .before .before .before .before .before .before .before .before .before .before .before .before .before .before .put-number2 .ensures)
-          (field-more (c .before .before .before .before .before .before .before .before .before .before .put-number3 .ensures) (field-more (c .before .before .before .before .before .before .put-number4 .ensures) (c .before .before .put-number5 .ensures .wrote)))));
-      short = omega (arith, c .before .before .before .before .before .before .before .before .before .before .before .before .before .before .before .before .before .before .before .before .before .before .before .before .before .before .put-number .ensures .short, c .before .before .before .before .before .before .before .before .before .before .before .before .before .before .before .before .before .before .put-word2 .ensures .short, c .before .before .before .before .before .before .before .before .before .before .before .before .before .before .put-number2 .ensures .short, c .before .before .before .before .before .before .before .before .before .before .put-number3 .ensures .short, c .before .before .before .before .before .before .put-number4 .ensures .short, c .before .before .put-number5 .ensures .short);
+          field-more (at-put-number .put-number .ensures) (field-more (at-put-word2 .put-word2 .ensures) (field-more (at-put-number2 .put-number2 .ensures)
+          (field-more (at-put-number3 .put-number3 .ensures) (field-more (at-put-number4 .put-number4 .ensures) (c .before .before .put-number5 .ensures .wrote)))));
+      short = omega (arith, at-put-number .put-number .ensures .short, at-put-word2 .put-word2 .ensures .short, at-put-number2 .put-number2 .ensures .short, at-put-number3 .put-number3 .ensures .short, at-put-number4 .put-number4 .ensures .short, c .before .before .put-number5 .ensures .short);
     })
 
 same-length-3 : tie.Need-same-length-3
@@ -79,10 +87,14 @@ same-length-3 c = search needs
 
 returns-3 : tie.Need-returns-3
 returns-3 c =
-    rw (c .before .before .before .before .before .before .before .before .before .before .before .before .before .before .verdict2 .given .1)
+    let at-put-number6 : tie.After-put-number6 = search in
+    let at-put-word3 : tie.After-put-word3 = search in
+    let at-verdict2 : tie.After-verdict2 = search in
+    let at-put-number : tie.After-put-number = search in
+    rw (at-verdict2 .verdict2 .given .1)
     (record {
       wrote =
-          field-more (c .before .before .before .before .before .before .before .before .before .before .before .before .before .before .before .before .before .before .put-number .ensures) (field-more (c .before .before .before .before .before .before .before .before .before .before .put-word3 .ensures) (field-more (c .before .before .before .before .before .before .put-number6 .ensures) (c .before .before .put-number7 .ensures .wrote)));
+          field-more (at-put-number .put-number .ensures) (field-more (at-put-word3 .put-word3 .ensures) (field-more (at-put-number6 .put-number6 .ensures) (c .before .before .put-number7 .ensures .wrote)));
       short = search needs;
     })
 

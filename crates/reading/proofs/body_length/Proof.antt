@@ -16,11 +16,14 @@ cast-n : tie.Need-cast-n
 cast-n c = search needs
 
 returns-2 : tie.Need-returns-2
-returns-2 c = (sym (wanted-long (c .before .before .before .before .args .s .now) (c .before .before .if1 .left) (rw (c .before .two-at .ensures) at (c .if2 .taken))), omega arith)
+returns-2 c =
+    let s : tie.Start = search in
+    (sym (wanted-long (s .args .s .now) (c .before .before .if1 .left) (rw (c .before .two-at .ensures) at (c .if2 .taken))), omega arith)
 
 returns-3 : tie.Need-returns-3
 returns-3 c =
-    (c .before .two-at .ensures ∙ sym (wanted-is (c .before .before .before .before .args .s .now) (c .before .before .if1 .left) (rw (c .before .two-at .ensures) at (c .if2 .left))), omega arith)
+    let s : tie.Start = search in
+    (c .before .two-at .ensures ∙ sym (wanted-is (s .args .s .now) (c .before .before .if1 .left) (rw (c .before .two-at .ensures) at (c .if2 .left))), omega arith)
 
 pub body-length-spec : {M : Type 1} → statement M
 body-length-spec = tie.close (tie.spec returns two-at-requires cast-n returns-2 returns-3)

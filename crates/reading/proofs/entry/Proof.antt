@@ -19,7 +19,9 @@ number-at-requires : tie.Need-number-at-requires
 number-at-requires c κs = search needs
 
 cast-star : tie.Need-cast-star
-cast-star c = let h = number-lt 4 (c .before .before .before .args .b .now) 0 (λ i. c .before .before .shared-slice-known .given i .fits) in record { fits = omega (arith, c .number-at .ensures) }
+cast-star c =
+    let s : tie.Start = search in
+    let h = number-lt 4 (s .args .b .now) 0 (λ i. c .before .before .shared-slice-known .given i .fits) in record { fits = omega (arith, c .number-at .ensures) }
 
 code-at-requires : tie.Need-code-at-requires
 code-at-requires c κs = search needs

@@ -17,15 +17,20 @@ shared-slice-read-match : tie.Need-shared-slice-read-match
 shared-slice-read-match c = search needs
 
 returns-3 : tie.Need-returns-3
-returns-3 c = rw (eq-eqb _ _ (c .before .before .before .before .if1 .left), eq-eqb _ _ (c .before .before .if2 .left), eq-eqb _ _ (c .match .keys1))
+returns-3 c =
+    let else1 : tie.Else1 = search in
+    rw (eq-eqb _ _ (else1 .if1 .left), eq-eqb _ _ (c .before .before .if2 .left), eq-eqb _ _ (c .match .keys1))
 
 returns-4 : tie.Need-returns-4
-returns-4 c = rw (eq-eqb _ _ (c .before .before .before .before .if1 .left), eq-eqb _ _ (c .before .before .if2 .left), c .match .keys2)
+returns-4 c =
+    let else1 : tie.Else1 = search in
+    rw (eq-eqb _ _ (else1 .if1 .left), eq-eqb _ _ (c .before .before .if2 .left), c .match .keys2)
 
 returns-5 : tie.Need-returns-5
 returns-5 c =
+    let else1 : tie.Else1 = search in
     rw (
-      eq-eqb _ _ (c .before .before .before .before .if1 .left),
+      eq-eqb _ _ (else1 .if1 .left),
       eq-eqb _ _ (c .before .before .if2 .left),
       ne-eqb _ _ (c .match .rest .0 .1),
       ne-eqb _ _ (c .match .rest .1),

@@ -11,7 +11,9 @@ use Rattle.reading.proofs.next_record.Statement.{statement}
 use Rattle.reading.proofs.next_record.Tie as tie
 
 whole-at : (c : tie.After-n) → WholeIs (c .before .before .before .before .args .s .now) (c .n .given .0 .0) (c .n .given .0 .1 .0)
-whole-at c = whole-is (c .before .before .before .before .args .s .now) _ _ _ (c .before .before .front-of .ensures) (c .n .given .1)
+whole-at c =
+    let s : tie.Start = search in
+    whole-is (s .args .s .now) _ _ _ (c .before .before .front-of .ensures) (c .n .given .1)
 
 front-of-requires : tie.Need-front-of-requires
 front-of-requires c κs = search needs
@@ -29,10 +31,16 @@ enum-known-n : tie.Need-enum-known-n
 enum-known-n c = search needs
 
 returns : tie.Need-returns
-returns c = by-front _ _ _ _ _ (c .before .before .before .before .before .front-of .ensures) (c .before .before .before .n .given .1) (rw (le-leb 65535 (c .before .before .before .before .before .before .before .args .session .records) (omega (arith, c .if1 .taken))))
+returns c =
+    let at-n : tie.After-n = search in
+    let at-front-of : tie.After-front-of = search in
+    let s : tie.Start = search in
+    by-front _ _ _ _ _ (at-front-of .front-of .ensures) (at-n .n .given .1) (rw (le-leb 65535 (s .args .session .records) (omega (arith, c .if1 .taken))))
 
 add-end : tie.Need-add-end
-add-end c = let h = whole-at (c .before .before .before) in record { fits = omega arith }
+add-end c =
+    let at-n : tie.After-n = search in
+    let h = whole-at at-n in record { fits = omega arith }
 
 sub-meaning : tie.Need-sub-meaning
 sub-meaning c = search needs
@@ -41,7 +49,9 @@ part-meaning-start : tie.Need-part-meaning-start
 part-meaning-start c = search needs
 
 part-meaning-end : tie.Need-part-meaning-end
-part-meaning-end c = let h = whole-at (c .before .before .before) in omega arith
+part-meaning-end c =
+    let at-n : tie.After-n = search in
+    let h = whole-at at-n in omega arith
 
 meaning-requires : tie.Need-meaning-requires
 meaning-requires c κs = search needs
@@ -57,11 +67,13 @@ returns-4 c = by-front _ _ _ _ _ (c .before .before .front-of .ensures) (c .enum
 
 returns-5 : tie.Need-returns-5
 returns-5 c =
-    let a = c .before .before .before .before .before .before .before .before .before .args in
-    let n = c .before .before .before .before .before .n .given .0 .0 in
+    let at-n : tie.After-n = search in
+    let at-front-of : tie.After-front-of = search in
+    let a : tie.Start = search in
+    let n = at-n .n .given .0 .0 in
     let e : 4 + n - 4 ≡ n = omega arith in
-    by-front _ _ _ _ _ (c .before .before .before .before .before .before .before .front-of .ensures) (c .before .before .before .before .before .n .given .1)
-    (rw (lt-leb 65535 (a .session .records) (omega (arith, c .before .before .if1 .left))) (c .meaning .ensures ∙ ap (λ (m : ℕ). meaningOf (a .session) (c .before .before .before .before .before .n .given .0 .1 .0) (take m (drop 4 (a .s .now)))) e))
+    by-front _ _ _ _ _ (at-front-of .front-of .ensures) (at-n .n .given .1)
+    (rw (lt-leb 65535 (a .args .session .records) (omega (arith, c .before .before .if1 .left))) (c .meaning .ensures ∙ ap (λ (m : ℕ). meaningOf (a .args .session) (at-n .n .given .0 .1 .0) (take m (drop 4 (a .args .s .now)))) e))
 
 pub next-record-spec : {M : Type 1} → statement M
 next-record-spec =

@@ -18,7 +18,10 @@ seven-at : (c : tie.At-loop Inv-loop μ-loop) → 0 < c .loop .i → c .loop .v 
 seven-at c p = seven (c .before .before .args .k - c .loop .i) _ (omega arith) (c .loop .inv .small)
 
 byte-at : (c : tie.After-wide Inv-loop μ-loop) → c .wide .result < 256
-byte-at c = omega (arith, c .wide .ensures, c .before .shared-slice-known2 .given (c .before .before .before .before .before .args .at + (c .before .before .before .loop .i - 1)))
+byte-at c =
+    let at-loop : tie.At-loop Inv-loop μ-loop = search in
+    let s : tie.Start Inv-loop μ-loop = search in
+    omega (arith, c .wide .ensures, c .before .shared-slice-known2 .given (s .args .at + (at-loop .loop .i - 1)))
 
 loop-holds : tie.Need-loop-holds Inv-loop μ-loop
 loop-holds c = reading-none _ _ _
@@ -40,7 +43,8 @@ wide-requires c κs = search needs
 
 add-v : tie.Need-add-v Inv-loop μ-loop
 add-v c =
-    let l = seven-at (c .before .before .before) (c .before .before .loop-test .taken) in
+    let at-loop : tie.At-loop Inv-loop μ-loop = search in
+    let l = seven-at at-loop (c .before .before .loop-test .taken) in
     let b = byte-at c in
     record { fits = omega arith }
 
@@ -48,14 +52,16 @@ loop-less : tie.Need-loop-less Inv-loop μ-loop
 loop-less c = search needs
 
 loop-again : tie.Need-loop-again Inv-loop μ-loop
-loop-again c = reading-more _ _ _ _ _ _ (c .before .before .before .loop .inv) (c .before .before .loop-test .taken) (c .wide .ensures) (byte-at c)
+loop-again c =
+    let at-loop : tie.At-loop Inv-loop μ-loop = search in
+    reading-more _ _ _ _ _ _ (at-loop .loop .inv) (c .before .before .loop-test .taken) (c .wide .ensures) (byte-at c)
 
 returns : tie.Need-returns Inv-loop μ-loop
 returns c =
+    let a : tie.Start Inv-loop μ-loop = search in
     let z : c .before .loop .i ≡ 0 = omega arith in
-    let a = c .before .before .before .args in
-    let d : a .k - c .before .loop .i ≡ a .k = omega arith in
-    let e : a .at + c .before .loop .i ≡ a .at = omega arith in
+    let d : a .args .k - c .before .loop .i ≡ a .args .k = omega arith in
+    let e : a .args .at + c .before .loop .i ≡ a .args .at = omega arith in
     rw (d, e) at (c .before .loop .inv .value)
 
 pub number-at-spec : {M : Type 1} → statement M

@@ -24,7 +24,9 @@ abbrev μ-loop : tie.MeasureT-loop
 μ-loop s at n list₀ i₀ list i = n - i
 
 length-now : (c : tie.At-loop Inv-loop μ-loop) → length (c .loop .list) ≡ length (c .before .before .before .args .list .now)
-length-now c = ap length (c .loop .inv .1) ∙ length-over (anglesAt (c .before .before .before .args .s .now) (c .before .before .before .args .at) (c .loop .i)) (c .before .before .before .args .list .now) (rw length-tab (omega arith))
+length-now c =
+    let s : tie.Start Inv-loop μ-loop = search in
+    ap length (c .loop .inv .1) ∙ length-over (anglesAt (s .args .s .now) (s .args .at) (c .loop .i)) (s .args .list .now) (rw length-tab (omega arith))
 
 loop-holds : tie.Need-loop-holds Inv-loop μ-loop
 loop-holds c = (omega arith, sym (fill-none (angle (c .before .before .args .s .now) (c .before .before .args .at)) (c .before .before .args .list .now)))
@@ -45,7 +47,9 @@ mul-list : tie.Need-mul-list Inv-loop μ-loop
 mul-list c = search needs
 
 slice-write-list : tie.Need-slice-write-list Inv-loop μ-loop
-slice-write-list c = omega (arith, length-now (c .before .before .before))
+slice-write-list c =
+    let at-loop : tie.At-loop Inv-loop μ-loop = search in
+    omega (arith, length-now at-loop)
 
 add-i : tie.Need-add-i Inv-loop μ-loop
 add-i c = search needs
@@ -55,18 +59,20 @@ loop-less c = search needs
 
 loop-again : tie.Need-loop-again Inv-loop μ-loop
 loop-again c =
-    let a = c .before .before .before .before .before .before .args in
-    let f = angle (a .s .now) (a .at) in
-    let i = c .before .before .before .loop .i in
+    let at-loop : tie.At-loop Inv-loop μ-loop = search in
+    let a : tie.Start Inv-loop μ-loop = search in
+    let f = angle (a .args .s .now) (a .args .at) in
+    let i = at-loop .loop .i in
     let v : c .float-of .result ≡ f i = c .float-of .ensures ∙ ap (ofBits binary64) (c .before .number-at .ensures) in
-    (omega arith, ap₂ (λ (l : List Float) (x : Float). set l i x) (c .before .before .before .loop .inv .1) v ∙ fill-next f (a .list .now) i (omega arith))
+    (omega arith, ap₂ (λ (l : List Float) (x : Float). set l i x) (at-loop .loop .inv .1) v ∙ fill-next f (a .args .list .now) i (omega arith))
 
 same-length : tie.Need-same-length Inv-loop μ-loop
 same-length c = length-now (c .before)
 
 returns : tie.Need-returns Inv-loop μ-loop
 returns c =
-    let e : c .before .loop .i ≡ c .before .before .before .before .args .n = omega arith in
+    let s : tie.Start Inv-loop μ-loop = search in
+    let e : c .before .loop .i ≡ s .args .n = omega arith in
     rw e at (c .before .loop .inv .1)
 
 pub read-angles-spec : {M : Type 1} → statement M

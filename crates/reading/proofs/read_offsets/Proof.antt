@@ -19,7 +19,8 @@ same-length-2 c = search needs
 returns : tie.Need-returns
 unfolding acrossOf upOf
 returns c =
-    (c .before .before .before .before .before .before .read-angles .ensures, c .before .before .read-angles2 .ensures)
+    let at-read-angles : tie.After-read-angles = search in
+    (at-read-angles .read-angles .ensures, c .before .before .read-angles2 .ensures)
 
 pub read-offsets-spec : {M : Type 1} → statement M
 read-offsets-spec =

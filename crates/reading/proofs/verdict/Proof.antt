@@ -24,7 +24,8 @@ code-at-requires c κs = search needs
 
 returns-2 : tie.Need-returns-2
 returns-2 c =
-    rw (eq-eqb _ _ (c .before .before .before .if1 .left)) (cc)
+    let else1 : tie.Else1 = search in
+    rw (eq-eqb _ _ (else1 .if1 .left)) (cc)
 
 pub verdict-spec : {M : Type 1} → statement M
 verdict-spec =

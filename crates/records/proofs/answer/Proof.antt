@@ -38,32 +38,54 @@ enum-known-question-4 c = search needs
 
 ask-sky-requires : tie.Need-ask-sky-requires
 ask-sky-requires c κs =
-    let h = subst (λ (q : Question). StarsFit q (length (c .before .before .before .before .before .before .before .before .before .before .before .before .args .s .now))) (c .before .before .question4 .given .1) (c .before .before .before .before .before .before .before .before .before .before .before .before .pre) in
-    (c .before .before .before .before .put-opening .ensures .short, h .0, h .1)
+    let at-put-opening : tie.After-put-opening = search in
+    let s : tie.Start = search in
+    let h = subst (λ (q : Question). StarsFit q (length (s .args .s .now))) (c .before .before .question4 .given .1) (s .pre) in
+    (at-put-opening .put-opening .ensures .short, h .0, h .1)
 
 returns : tie.Need-returns
 returns c =
-    rw (c .before .before .before .before .before .before .before .before .question .given .1)
-    (answered (c .before .before .before .before .before .before .before .before .before .before .before .before .before .before .before .before .before .before .args .session) _ _ (c .before .before .before .before .before .before .before .before .before .before .before .before .before .before .before .before .before .before .args .s .now) (c .before .before .before .before .before .before .before .before .before .before .before .before .build-tables .ensures) (c .before .before .before .before .before .before .before .before .before .before .put-opening .ensures)
-    (nearest-replied (c .before .before .before .before .before .before .before .before .before .before .before .before .before .before .before .before .before .before .args .session) _ _ (c .before .before .before .before .before .before .before .before .before .before .before .before .before .before .before .before .before .before .args .s .now) _ _ (c .ask-nearest .ensures)) (omega (arith, c .before .before .before .before .before .before .before .before .before .before .before .put-opening-arg .given)))
+    let at-question : tie.After-question = search in
+    let at-put-opening : tie.After-put-opening = search in
+    let at-put-opening-arg : tie.After-put-opening-arg = search in
+    let at-build-tables : tie.After-build-tables = search in
+    let s : tie.Start = search in
+    rw (at-question .question .given .1)
+    (answered (s .args .session) _ _ (s .args .s .now) (at-build-tables .build-tables .ensures) (at-put-opening .put-opening .ensures)
+    (nearest-replied (s .args .session) _ _ (s .args .s .now) _ _ (c .ask-nearest .ensures)) (omega (arith, at-put-opening-arg .put-opening-arg .given)))
 
 returns-2 : tie.Need-returns-2
 returns-2 c =
-    rw (c .before .before .before .before .before .before .before .before .question2 .given .1)
-    (answered (c .before .before .before .before .before .before .before .before .before .before .before .before .before .before .before .before .before .before .args .session) _ _ (c .before .before .before .before .before .before .before .before .before .before .before .before .before .before .before .before .before .before .args .s .now) (c .before .before .before .before .before .before .before .before .before .before .before .before .build-tables .ensures) (c .before .before .before .before .before .before .before .before .before .before .put-opening .ensures)
-    (within-replied (c .before .before .before .before .before .before .before .before .before .before .before .before .before .before .before .before .before .before .args .session) _ _ (c .before .before .before .before .before .before .before .before .before .before .before .before .before .before .before .before .before .before .args .s .now) _ _ (c .ask-within .ensures)) (omega (arith, c .before .before .before .before .before .before .before .before .before .before .before .put-opening-arg .given)))
+    let at-question2 : tie.After-question2 = search in
+    let at-put-opening : tie.After-put-opening = search in
+    let at-put-opening-arg : tie.After-put-opening-arg = search in
+    let at-build-tables : tie.After-build-tables = search in
+    let s : tie.Start = search in
+    rw (at-question2 .question2 .given .1)
+    (answered (s .args .session) _ _ (s .args .s .now) (at-build-tables .build-tables .ensures) (at-put-opening .put-opening .ensures)
+    (within-replied (s .args .session) _ _ (s .args .s .now) _ _ (c .ask-within .ensures)) (omega (arith, at-put-opening-arg .put-opening-arg .given)))
 
 returns-3 : tie.Need-returns-3
 returns-3 c =
-    rw (c .before .before .before .before .before .before .question3 .given .1)
-    (answered (c .before .before .before .before .before .before .before .before .before .before .before .before .before .before .before .before .args .session) _ _ (c .before .before .before .before .before .before .before .before .before .before .before .before .before .before .before .before .args .s .now) (c .before .before .before .before .before .before .before .before .before .before .build-tables .ensures) (c .before .before .before .before .before .before .before .before .put-opening .ensures)
-    (verdict-replied (c .before .before .before .before .before .before .before .before .before .before .before .before .before .before .before .before .args .session) _ _ (c .before .before .before .before .before .before .before .before .before .before .before .before .before .before .before .before .args .s .now) _ _ _ (c .ask-verdict .ensures) (c .before .before .before .before .before .before .before .before .put-opening .ensures .short)) (omega (arith, c .before .before .before .before .before .before .before .before .before .put-opening-arg .given)))
+    let at-question3 : tie.After-question3 = search in
+    let at-put-opening : tie.After-put-opening = search in
+    let at-put-opening-arg : tie.After-put-opening-arg = search in
+    let at-build-tables : tie.After-build-tables = search in
+    let s : tie.Start = search in
+    rw (at-question3 .question3 .given .1)
+    (answered (s .args .session) _ _ (s .args .s .now) (at-build-tables .build-tables .ensures) (at-put-opening .put-opening .ensures)
+    (verdict-replied (s .args .session) _ _ (s .args .s .now) _ _ _ (c .ask-verdict .ensures) (at-put-opening .put-opening .ensures .short)) (omega (arith, at-put-opening-arg .put-opening-arg .given)))
 
 returns-4 : tie.Need-returns-4
 returns-4 c =
-    rw (c .before .before .before .question4 .given .1)
-    (answered (c .before .before .before .before .before .before .before .before .before .before .before .before .before .args .session) _ _ (c .before .before .before .before .before .before .before .before .before .before .before .before .before .args .s .now) (c .before .before .before .before .before .before .before .build-tables .ensures) (c .before .before .before .before .before .put-opening .ensures)
-    (sky-replied (c .before .before .before .before .before .before .before .before .before .before .before .before .before .args .session) _ _ (c .before .before .before .before .before .before .before .before .before .before .before .before .before .args .s .now) _ _ (c .ask-sky .ensures) (c .before .before .before .before .before .put-opening .ensures .short)) (omega (arith, c .before .before .before .before .before .before .put-opening-arg .given)))
+    let at-question4 : tie.After-question4 = search in
+    let at-put-opening : tie.After-put-opening = search in
+    let at-put-opening-arg : tie.After-put-opening-arg = search in
+    let at-build-tables : tie.After-build-tables = search in
+    let s : tie.Start = search in
+    rw (at-question4 .question4 .given .1)
+    (answered (s .args .session) _ _ (s .args .s .now) (at-build-tables .build-tables .ensures) (at-put-opening .put-opening .ensures)
+    (sky-replied (s .args .session) _ _ (s .args .s .now) _ _ (c .ask-sky .ensures) (at-put-opening .put-opening .ensures .short)) (omega (arith, at-put-opening-arg .put-opening-arg .given)))
 
 pub answer-spec : {M : Type 1} → statement M
 answer-spec =

@@ -46,10 +46,12 @@ put-sky-requires c κs = search needs
 returns : tie.Need-returns
 unfolding acrossOf upOf
 returns c =
-    let a = c .before .before .before .before .before .before .before .before .before .before .before .before .args in
-    let p = angles-front (a .s .now) 5 (a .n) _ _ (c .before .before .before .before .before .before .before .before .read-offsets .ensures .0) in
-    let q = angles-front (a .s .now) 13 (a .n) _ _ (c .before .before .before .before .before .before .before .before .read-offsets .ensures .1) in
-    let e = c .before .before .before .code .ensures ∙ ap₂ (λ (x y : List Float). skyAnswer (a .unit) x y) p q in
+    let at-code : tie.After-code = search in
+    let at-read-offsets : tie.After-read-offsets = search in
+    let a : tie.Start = search in
+    let p = angles-front (a .args .s .now) 5 (a .args .n) _ _ (at-read-offsets .read-offsets .ensures .0) in
+    let q = angles-front (a .args .s .now) 13 (a .args .n) _ _ (at-read-offsets .read-offsets .ensures .1) in
+    let e = at-code .code .ensures ∙ ap₂ (λ (x y : List Float). skyAnswer (a .args .unit) x y) p q in
     let number = c .before .number-of .ensures in
     record { wrote = wrote-is (λ i. skyLine (number i) (e i)) (c .put-sky .ensures .wrote); short = c .put-sky .ensures .short }
 

@@ -25,10 +25,16 @@ kept-codes-requires : tie.Need-kept-codes-requires
 kept-codes-requires c κs = search needs
 
 array-share-prefix-query : tie.Need-array-share-prefix-query
-array-share-prefix-query c = two-most (eqb (c .before .before .before .before .before .before .before .before .args .session .words) 2) _ (c .before .before .before .before .before .before .before .query-words .ensures)
+array-share-prefix-query c =
+    let at-query-words : tie.After-query-words = search in
+    let s : tie.Start = search in
+    two-most (eqb (s .args .session .words) 2) _ (at-query-words .query-words .ensures)
 
 slice-aggregate-verdict : tie.Need-slice-aggregate-verdict
-slice-aggregate-verdict c = sym (length-take-le _ _ (two-most (eqb (c .before .before .before .before .before .before .before .before .before .args .session .words) 2) _ (c .before .before .before .before .before .before .before .before .query-words .ensures)))
+slice-aggregate-verdict c =
+    let at-query-words : tie.After-query-words = search in
+    let s : tie.Start = search in
+    sym (length-take-le _ _ (two-most (eqb (s .args .session .words) 2) _ (at-query-words .query-words .ensures)))
 
 verdict-requires : tie.Need-verdict-requires
 verdict-requires c κs = search needs
@@ -41,11 +47,16 @@ put-judged-requires c κs = search needs
 
 returns : tie.Need-returns
 returns c =
-    let a = c .before .before .before .before .before .before .before .before .before .before .before .before .before .before .args in
-    let x = index-is (a .starts .now) (a .ids .now) (c .before .before .before .before .before .before .before .before .before .before .before .before .shape-of .ensures) (c .before .before .before .before .before .before .before .before .before .before .kept-stars .ensures) (c .before .before .before .before .before .before .before .before .kept-codes .ensures) in
-    let q = query-is (a .session .words) (a .code) _ (c .before .before .before .before .before .before .before .before .before .before .before .before .before .query-words .ensures) in
-    judged-replied (a .session) (a .t) (a .g) (a .code) _ (a .marks .now) (c .before .number-of .ensures)
-    (c .before .before .before .verdict .ensures ∙ ap₂ (λ (y : Index) (l : List ℕ). verdictEnd (question y l) (a .marks .now) (a .t) (a .g)) x q) (c .put-judged .ensures)
+    let at-verdict : tie.After-verdict = search in
+    let at-kept-codes : tie.After-kept-codes = search in
+    let at-kept-stars : tie.After-kept-stars = search in
+    let at-shape-of : tie.After-shape-of = search in
+    let at-query-words : tie.After-query-words = search in
+    let a : tie.Start = search in
+    let x = index-is (a .args .starts .now) (a .args .ids .now) (at-shape-of .shape-of .ensures) (at-kept-stars .kept-stars .ensures) (at-kept-codes .kept-codes .ensures) in
+    let q = query-is (a .args .session .words) (a .args .code) _ (at-query-words .query-words .ensures) in
+    judged-replied (a .args .session) (a .args .t) (a .args .g) (a .args .code) _ (a .args .marks .now) (c .before .number-of .ensures)
+    (at-verdict .verdict .ensures ∙ ap₂ (λ (y : Index) (l : List ℕ). verdictEnd (question y l) (a .args .marks .now) (a .args .t) (a .args .g)) x q) (c .put-judged .ensures)
 
 pub ask-verdict-spec : {M : Type 1} → statement M
 ask-verdict-spec =

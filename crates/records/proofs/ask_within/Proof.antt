@@ -17,8 +17,13 @@ use Rattle.records.proofs.ask_within.Tie as tie
 
 fits : (c : tie.After-within) → answersOf (c .within .result) ≤ 512
 fits c =
-    let a = c .before .before .before .before .before .before .before .before .before .before .before .before .before .args in
-    omega (arith, within-fits _ (a .r) (c .within .ensures), ap length (c .before .before .before .before .before .before .before .before .before .kept-stars .ensures), length-take (a .session .entries) (a .stars .now))
+    let at-kept-stars : tie.After-kept-stars = search in
+    let a : tie.Start = search in
+    omega (arith, within-fits _ (a .args .r) (c .within .ensures), ap length (at-kept-stars .kept-stars .ensures), length-take (a .args .session .entries) (a .args .stars .now))
+
+-- the start, seen from behind a later call
+abbrev start-of : tie.After-within → tie.Start
+start-of c = c .before .before .before .before .before .before .before .before .before .before .before .before .before
 
 query-words-requires : tie.Need-query-words-requires
 query-words-requires c κs = search needs
@@ -33,10 +38,16 @@ kept-codes-requires : tie.Need-kept-codes-requires
 kept-codes-requires c κs = search needs
 
 array-share-prefix-query : tie.Need-array-share-prefix-query
-array-share-prefix-query c = two-most (eqb (c .before .before .before .before .before .before .before .before .args .session .words) 2) _ (c .before .before .before .before .before .before .before .query-words .ensures)
+array-share-prefix-query c =
+    let at-query-words : tie.After-query-words = search in
+    let s : tie.Start = search in
+    two-most (eqb (s .args .session .words) 2) _ (at-query-words .query-words .ensures)
 
 slice-aggregate-within : tie.Need-slice-aggregate-within
-slice-aggregate-within c = sym (length-take-le _ _ (two-most (eqb (c .before .before .before .before .before .before .before .before .before .args .session .words) 2) _ (c .before .before .before .before .before .before .before .before .query-words .ensures)))
+slice-aggregate-within c =
+    let at-query-words : tie.After-query-words = search in
+    let s : tie.Start = search in
+    sym (length-take-le _ _ (two-most (eqb (s .args .session .words) 2) _ (at-query-words .query-words .ensures)))
 
 within-requires : tie.Need-within-requires
 within-requires c κs = search needs
@@ -51,17 +62,24 @@ kept-stars-requires-2 : tie.Need-kept-stars-requires-2
 kept-stars-requires-2 c κs = search needs
 
 put-found-requires : tie.Need-put-found-requires
-put-found-requires c κs = omega (arith, fits (c .before .before .before .before .before .before .before .before .before), c .before .before .before .before .before .before .before .before .before .before .before .before .before .before .before .before .before .before .before .before .before .before .pre)
+put-found-requires c κs = omega (arith, fits search, (start-of search) .pre)
 
 returns : tie.Need-returns
 returns c =
-    let a = c .before .before .before .before .before .before .before .before .before .before .before .before .before .before .before .before .before .before .before .before .before .before .before .args in
-    let x = index-is (a .starts .now) (a .ids .now) (c .before .before .before .before .before .before .before .before .before .before .before .before .before .before .before .before .before .before .before .before .before .shape-of .ensures) (c .before .before .before .before .before .before .before .before .before .before .before .before .before .before .before .before .before .before .before .kept-stars .ensures) (c .before .before .before .before .before .before .before .before .before .before .before .before .before .before .before .before .before .kept-codes .ensures) in
-    let q = query-is (a .session .words) (a .code) _ (c .before .before .before .before .before .before .before .before .before .before .before .before .before .before .before .before .before .before .before .before .before .before .query-words .ensures) in
-    found-replied within (c .before .before .before .before .before .before .before .before .number-of .ensures) (c .before .before .before .before .before .kept-stars2 .ensures)
-    (c .before .before .before .before .before .before .before .before .before .before .within .ensures
-    ∙ ap₂ (λ (y : Index) (l : List ℕ). withinEnd (asked (question y l) (a .marks .now) (a .entries .now) (a .distances .now)) (a .r)) x q)
-    (c .put-found .ensures) (omega (arith, fits (c .before .before .before .before .before .before .before .before .before .before), c .put-found .ensures .short, c .before .before .before .before .before .before .before .before .before .before .before .before .before .before .before .before .before .before .before .before .before .before .before .pre))
+    let at-kept-stars2 : tie.After-kept-stars2 = search in
+    let at-number-of : tie.After-number-of = search in
+    let at-within : tie.After-within = search in
+    let at-kept-codes : tie.After-kept-codes = search in
+    let at-kept-stars : tie.After-kept-stars = search in
+    let at-shape-of : tie.After-shape-of = search in
+    let at-query-words : tie.After-query-words = search in
+    let a : tie.Start = search in
+    let x = index-is (a .args .starts .now) (a .args .ids .now) (at-shape-of .shape-of .ensures) (at-kept-stars .kept-stars .ensures) (at-kept-codes .kept-codes .ensures) in
+    let q = query-is (a .args .session .words) (a .args .code) _ (at-query-words .query-words .ensures) in
+    found-replied within (at-number-of .number-of .ensures) (at-kept-stars2 .kept-stars2 .ensures)
+    (at-within .within .ensures
+    ∙ ap₂ (λ (y : Index) (l : List ℕ). withinEnd (asked (question y l) (a .args .marks .now) (a .args .entries .now) (a .args .distances .now)) (a .args .r)) x q)
+    (c .put-found .ensures) (omega (arith, fits at-within, c .put-found .ensures .short, a .pre))
 
 pub ask-within-spec : {M : Type 1} → statement M
 ask-within-spec =

@@ -29,9 +29,14 @@ same-length-2 c = search needs
 
 returns-2 : tie.Need-returns-2
 returns-2 c =
-    let a = c .before .before .before .before .before .before .before .before .before .before .before .before .before .before .before .args in
-    let x = index-is (a .starts .now) (a .ids .now) (c .before .before .before .before .before .before .before .before .before .shape-of .ensures) (c .before .before .before .before .before .before .before .before .kept-stars .ensures) (c .before .before .before .before .before .before .before .kept-codes .ensures) in
-    built-first (a .session) (a .stars .now) (a .codes .now) (a .starts .now) (a .ids .now) (c .before .before .before .before .before .before .before .before .before .before .if1 .left) (c .before .before .before .before .build .ensures ∙ ap buildEnd x)
+    let at-build : tie.After-build = search in
+    let at-kept-codes : tie.After-kept-codes = search in
+    let at-kept-stars : tie.After-kept-stars = search in
+    let at-shape-of : tie.After-shape-of = search in
+    let else1 : tie.Else1 = search in
+    let a : tie.Start = search in
+    let x = index-is (a .args .starts .now) (a .args .ids .now) (at-shape-of .shape-of .ensures) (at-kept-stars .kept-stars .ensures) (at-kept-codes .kept-codes .ensures) in
+    built-first (a .args .session) (a .args .stars .now) (a .args .codes .now) (a .args .starts .now) (a .args .ids .now) (else1 .if1 .left) (at-build .build .ensures ∙ ap buildEnd x)
 
 pub build-tables-spec : {M : Type 1} → statement M
 build-tables-spec =

@@ -17,14 +17,17 @@ mul-n : tie.Need-mul-n
 mul-n c = record { fits = product-fits (c .before .before .args .session .entries) (c .before .before .args .session .words) (omega (arith, c .before .struct-known .given)) (omega (arith, c .struct-known2 .given)) }
 
 slice-aggregate-result : tie.Need-slice-aggregate-result
-slice-aggregate-result c = sym (length-take-le _ (c .before .before .before .before .args .codes .now) (omega arith))
+slice-aggregate-result c =
+    let s : tie.Start = search in
+    sym (length-take-le _ (s .args .codes .now) (omega arith))
 
 returns : tie.Need-returns
 returns c = search needs
 
 returns-2 : tie.Need-returns-2
 returns-2 c =
-    sym (take-all _ (c .before .before .before .args .codes .now) (c .if1 .left))
+    let s : tie.Start = search in
+    sym (take-all _ (s .args .codes .now) (c .if1 .left))
 
 pub kept-codes-spec : {M : Type 1} → statement M
 kept-codes-spec =

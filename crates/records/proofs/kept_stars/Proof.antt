@@ -10,7 +10,9 @@ cast-n : tie.Need-cast-n
 cast-n c = search needs
 
 slice-aggregate-result : tie.Need-slice-aggregate-result
-slice-aggregate-result c = sym (length-take-le _ (c .before .before .before .args .stars .now) (omega arith))
+slice-aggregate-result c =
+    let s : tie.Start = search in
+    sym (length-take-le _ (s .args .stars .now) (omega arith))
 
 returns : tie.Need-returns
 returns c = search needs

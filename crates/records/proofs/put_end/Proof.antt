@@ -17,7 +17,8 @@ same-length c = search needs
 
 returns-2 : tie.Need-returns-2
 returns-2 c =
-    rw (ne-eqb _ _ (c .before .before .before .before .if1 .left)) (c .before .before .put-opening .ensures)
+    let else1 : tie.Else1 = search in
+    rw (ne-eqb _ _ (else1 .if1 .left)) (c .before .before .put-opening .ensures)
 
 pub put-end-spec : {M : Type 1} → statement M
 put-end-spec = tie.close (tie.spec put-opening-requires returns same-length returns-2)

@@ -16,7 +16,8 @@ same-length c = search needs
 
 returns-2 : tie.Need-returns-2
 returns-2 c =
-    rw (c .before .before .before .before .if1 .left) (c .before .before .put-stars .ensures)
+    let else1 : tie.Else1 = search in
+    rw (else1 .if1 .left) (c .before .before .put-stars .ensures)
 
 pub put-opening-spec : {M : Type 1} → statement M
 put-opening-spec = tie.close (tie.spec put-stars-requires returns same-length returns-2)

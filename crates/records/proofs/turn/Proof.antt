@@ -46,10 +46,18 @@ enum-known-star : tie.Need-enum-known-star
 enum-known-star c = search needs
 
 keep-requires : tie.Need-keep-requires
-keep-requires c κs = entry-next (c .before .before .before .before .before .before .before .args .session) (c .before .before .before .before .before .before .before .args .s .now) _ _ (sym (c .before .before .before .before .before .next-record .ensures) ∙ c .before .before .before .star .given .1) .2
+keep-requires c κs =
+    let at-star : tie.After-star = search in
+    let at-next-record : tie.After-next-record = search in
+    let s : tie.Start = search in
+    entry-next (s .args .session) (s .args .s .now) _ _ (sym (at-next-record .next-record .ensures) ∙ at-star .star .given .1) .2
 
 with-entry-requires : tie.Need-with-entry-requires
-with-entry-requires c κs = entry-next (c .before .before .before .before .before .before .before .before .args .session) (c .before .before .before .before .before .before .before .before .args .s .now) _ _ (sym (c .before .before .before .before .before .before .next-record .ensures) ∙ c .before .before .before .before .star .given .1) .2
+with-entry-requires c κs =
+    let at-star : tie.After-star = search in
+    let at-next-record : tie.After-next-record = search in
+    let s : tie.Start = search in
+    entry-next (s .args .session) (s .args .s .now) _ _ (sym (at-next-record .next-record .ensures) ∙ at-star .star .given .1) .2
 
 going-requires-2 : tie.Need-going-requires-2
 going-requires-2 c κs = search needs
@@ -58,7 +66,11 @@ enum-known-question : tie.Need-enum-known-question
 enum-known-question c = search needs
 
 answer-requires : tie.Need-answer-requires
-answer-requires c κs = stars-fit (c .before .before .before .before .before .before .before .before .before .before .before .before .before .args .session) (c .before .before .before .before .before .before .before .before .before .before .before .before .before .args .s .now) _ (sym (c .before .before .before .before .before .before .before .before .before .before .before .next-record .ensures) ∙ c .before .before .before .before .before .before .before .before .before .question .given .1)
+answer-requires c κs =
+    let at-question : tie.After-question = search in
+    let at-next-record : tie.After-next-record = search in
+    let s : tie.Start = search in
+    stars-fit (s .args .session) (s .args .s .now) _ (sym (at-next-record .next-record .ensures) ∙ at-question .question .given .1)
 
 with-question-requires : tie.Need-with-question-requires
 with-question-requires c κs = search needs
@@ -79,19 +91,28 @@ returns-2 c =
 
 returns-3 : tie.Need-returns-3
 returns-3 c =
-    turn-is (c .before .before .before .before .before .before .before .args .session) _ _ (c .before .before .before .before .before .before .before .args .s .now) _ (sym (c .before .before .before .before .before .next-record .ensures) ∙ c .before .before .before .w .given .1) (c .going .ensures .0 ∙ c .before .with-head .ensures) (c .going .ensures .2) (c .going .ensures .1) refl
+    let at-w : tie.After-w = search in
+    let at-next-record : tie.After-next-record = search in
+    let s : tie.Start = search in
+    turn-is (s .args .session) _ _ (s .args .s .now) _ (sym (at-next-record .next-record .ensures) ∙ at-w .w .given .1) (c .going .ensures .0 ∙ c .before .with-head .ensures) (c .going .ensures .2) (c .going .ensures .1) refl
     (wrote-none _ 0) (omega arith)
 
 returns-4 : tie.Need-returns-4
 returns-4 c =
+    let at-star : tie.After-star = search in
+    let at-next-record : tie.After-next-record = search in
+    let s : tie.Start = search in
     let k = c .before .before .keep .ensures in
-    turn-is (c .before .before .before .before .before .before .before .before .before .before .args .session) _ _ (c .before .before .before .before .before .before .before .before .before .before .args .s .now) _ (sym (c .before .before .before .before .before .before .before .before .next-record .ensures) ∙ c .before .before .before .before .before .before .star .given .1) (c .going2 .ensures .0 ∙ c .before .with-entry .ensures) (c .going2 .ensures .2) (c .going2 .ensures .1)
+    turn-is (s .args .session) _ _ (s .args .s .now) _ (sym (at-next-record .next-record .ensures) ∙ at-star .star .given .1) (c .going2 .ensures .0 ∙ c .before .with-entry .ensures) (c .going2 .ensures .2) (c .going2 .ensures .1)
     (kept-desk (k .0) (k .1)) (wrote-none _ 0) (omega arith)
 
 returns-5 : tie.Need-returns-5
 returns-5 c =
+    let at-question : tie.After-question = search in
+    let at-next-record : tie.After-next-record = search in
+    let s : tie.Start = search in
     let w = c .before .before .answer .ensures in
-    turn-is (c .before .before .before .before .before .before .before .before .before .before .before .before .before .before .before .before .args .session) _ _ (c .before .before .before .before .before .before .before .before .before .before .before .before .before .before .before .before .args .s .now) _ (sym (c .before .before .before .before .before .before .before .before .before .before .before .before .before .before .next-record .ensures) ∙ c .before .before .before .before .before .before .before .before .before .before .before .before .question .given .1) (c .going3 .ensures .0 ∙ c .before .with-question .ensures) (c .going3 .ensures .2) (c .going3 .ensures .1)
+    turn-is (s .args .session) _ _ (s .args .s .now) _ (sym (at-next-record .next-record .ensures) ∙ at-question .question .given .1) (c .going3 .ensures .0 ∙ c .before .with-question .ensures) (c .going3 .ensures .2) (c .going3 .ensures .1)
     (asked-desk (w .starts) (w .ids) (w .lists)) (w .text) (w .room)
 
 pub turn-spec : {M : Type 1} → statement M

@@ -21,7 +21,7 @@ shared-slice-read-distance c = search needs
 returns-2 : tie.Need-returns-2
 unfolding star
 returns-2 c =
-    let s = c .before .before .before in
+    let s : tie.Start = search in
     λ dist same. sym (Judging.far (star s) dist _ _ _ _ (s .args .distances .now) (s .pre .places) (s .pre .few) same (let a = c .before .before .if1 .left in omega arith) (c .if2 .taken))
 
 shared-slice-read-star : tie.Need-shared-slice-read-star
@@ -31,26 +31,32 @@ cast-star : tie.Need-cast-star
 cast-star c = omega (arith, c .shared-slice-known2 .given 0)
 
 mul-star : tie.Need-mul-star
-mul-star c = let a = c .before .before .before .if1 .left in omega (arith, c .before .before .before .before .pre .entry 0 (omega arith))
+mul-star c =
+    let else1 : tie.Else1 = search in
+    let s : tie.Start = search in
+    let a = else1 .if1 .left in omega (arith, s .pre .entry 0 (omega arith))
 
 shared-slice-read-star-2 : tie.Need-shared-slice-read-star-2
-shared-slice-read-star-2 c = let a = c .before .before .before .before .if1 .left in c .before .before .before .before .before .pre .entry 0 (omega arith)
+shared-slice-read-star-2 c =
+    let else1 : tie.Else1 = search in
+    let s : tie.Start = search in
+    let a = else1 .if1 .left in s .pre .entry 0 (omega arith)
 
 returns-3 : tie.Need-returns-3
 unfolding star
 returns-3 c =
-    let s = c .before .before .before .before .before .before in
-    let at-if2 = c .before .before .before .if2 in
-    λ dist same. sym (Judging.alone (star s) dist _ _ _ _ (s .args .distances .now) (s .pre .places) (s .pre .few) same (c .if3 .taken) (at-if2 .left))
+    let at-if2 : tie.Else2 = search in
+    let s : tie.Start = search in
+    λ dist same. sym (Judging.alone (star s) dist _ _ _ _ (s .args .distances .now) (s .pre .places) (s .pre .few) same (c .if3 .taken) (at-if2 .if2 .left))
 
 shared-slice-read-farther : tie.Need-shared-slice-read-farther
 shared-slice-read-farther c = search needs
 
 sub-if4 : tie.Need-sub-if4
 sub-if4 c =
-    let s = c .before .before .before .before .before .before .before in
-    let at-if1 = c .before .before .before .before .before .before .if1 in
-    let a = at-if1 .left in let b = c .before .if3 .left in s .pre .order (omega arith)
+    let at-if1 : tie.Else1 = search in
+    let s : tie.Start = search in
+    let a = at-if1 .if1 .left in let b = c .before .if3 .left in s .pre .order (omega arith)
 
 shared-slice-read-other : tie.Need-shared-slice-read-other
 shared-slice-read-other c = search needs
@@ -60,34 +66,34 @@ cast-other c = omega (arith, c .shared-slice-known5 .given 1)
 
 mul-other : tie.Need-mul-other
 mul-other c =
-    let s = c .before .before .before .before .before .before .before .before .before in
-    let at-if1 = c .before .before .before .before .before .before .before .before .if1 in
-    let at-if3 = c .before .before .before .if3 in
-    let a = at-if1 .left in let b = at-if3 .left in omega (arith, s .pre .entry 1 (omega arith))
+    let at-if3 : tie.Else3 = search in
+    let at-if1 : tie.Else1 = search in
+    let s : tie.Start = search in
+    let a = at-if1 .if1 .left in let b = at-if3 .if3 .left in omega (arith, s .pre .entry 1 (omega arith))
 
 shared-slice-read-other-2 : tie.Need-shared-slice-read-other-2
 shared-slice-read-other-2 c =
-    let s = c .before .before .before .before .before .before .before .before .before .before in
-    let at-if1 = c .before .before .before .before .before .before .before .before .before .if1 in
-    let at-if3 = c .before .before .before .before .if3 in
-    let a = at-if1 .left in let b = at-if3 .left in s .pre .entry 1 (omega arith)
+    let at-if3 : tie.Else3 = search in
+    let at-if1 : tie.Else1 = search in
+    let s : tie.Start = search in
+    let a = at-if1 .if1 .left in let b = at-if3 .if3 .left in s .pre .entry 1 (omega arith)
 
 returns-4 : tie.Need-returns-4
 unfolding star
 returns-4 c =
-    let s = c .before .before .before .before .before .before .before .before .before .before in
-    let at-if1 = c .before .before .before .before .before .before .before .before .before .if1 in
-    let at-if2 = c .before .before .before .before .before .before .before .if2 in
-    let at-if3 = c .before .before .before .before .if3 in
-    λ dist same. sym (Judging.close (star s) dist _ _ _ _ (s .args .distances .now) (s .pre .places) (s .pre .few) same (let a = at-if1 .left in let b = at-if3 .left in let f = s .pre .few in omega arith) (at-if2 .left) (c .before .before .if4 .taken))
+    let at-if3 : tie.Else3 = search in
+    let at-if2 : tie.Else2 = search in
+    let at-if1 : tie.Else1 = search in
+    let s : tie.Start = search in
+    λ dist same. sym (Judging.close (star s) dist _ _ _ _ (s .args .distances .now) (s .pre .places) (s .pre .few) same (let a = at-if1 .if1 .left in let b = at-if3 .if3 .left in let f = s .pre .few in omega arith) (at-if2 .if2 .left) (c .before .before .if4 .taken))
 
 returns-5 : tie.Need-returns-5
 unfolding star
 returns-5 c =
-    let s = c .before .before .before .before .before .before .before .before in
-    let at-if1 = c .before .before .before .before .before .before .before .if1 in
-    let at-if2 = c .before .before .before .before .before .if2 in
-    λ dist same. sym (Judging.clear (star s) dist _ _ _ _ (s .args .distances .now) (s .pre .places) (s .pre .few) same (let a = at-if1 .left in let b = c .before .before .if3 .left in let f = s .pre .few in omega arith) (at-if2 .left) (c .if4 .left))
+    let at-if2 : tie.Else2 = search in
+    let at-if1 : tie.Else1 = search in
+    let s : tie.Start = search in
+    λ dist same. sym (Judging.clear (star s) dist _ _ _ _ (s .args .distances .now) (s .pre .places) (s .pre .few) same (let a = at-if1 .if1 .left in let b = c .before .before .if3 .left in let f = s .pre .few in omega arith) (at-if2 .if2 .left) (c .if4 .left))
 
 pub judge-spec : {M : Type 1} → statement M
 judge-spec =

@@ -19,6 +19,14 @@ use Rattle.search.proofs.list_nearest.Tie as tie
 abbrev Ask : tie.Start → Question
 Ask c = asks (c .args .shape) (c .args .stars .now) (c .args .codes .now) (c .args .starts .now) (c .args .ids .now) (c .args .query .now)
 
+-- the start, seen from behind a later call
+abbrev start-of : tie.After-nearest → tie.Start
+start-of c = c .before .before .before .before .before .before .before .before .before .before .before .before .before .before .before .before
+
+-- the walk leaves the marks as long as they were
+long : (c : tie.After-nearest) → length (c .nearest .last .1 .1 .1 .1 .1 .1 .1 .0) ≡ length (start-of c .args .marks .now)
+long c = search needs
+
 clear-requires : tie.Need-clear-requires
 clear-requires c κs = search needs
 
@@ -27,16 +35,16 @@ cast-k c = search needs
 
 nearest-requires : tie.Need-nearest-requires
 nearest-requires c κs =
-    let s = c .before .before .before .before .before .before .before .before .before .before .before .before .before .before .before in
-    let at-clear = c .before .before .before .before .clear in
-    (s .pre .0, (s .pre .1 .0 .0, Listing.fresh _ (s .args .marks .now) _ _ (s .pre .1 .1 .0) (at-clear .ensures ∙ ap (λ (k : ℕ). over (padded k []) (s .args .marks .now)) (s .pre .1 .1 .0)) (s .pre .1 .1 .1)))
+    let at-clear : tie.After-clear = search in
+    let s : tie.Start = search in
+    (s .pre .0, (s .pre .1 .0 .0, Listing.fresh _ (s .args .marks .now) _ _ (s .pre .1 .1 .0) (at-clear .clear .ensures ∙ ap (λ (k : ℕ). over (padded k []) (s .args .marks .now)) (s .pre .1 .1 .0)) (s .pre .1 .1 .1)))
 
 enum-known-met : tie.Need-enum-known-met
 enum-known-met c = search needs
 
 wipe-requires : tie.Need-wipe-requires
 wipe-requires c κs =
-    let s = c .before .before .before .before .before .before .before .before .before .before .before .before .before .before .before .before .before .before .before .before .before .before .before .before .before .before in
+    let s : tie.Start = search in
     (s .pre .1 .0 .1, s .pre .1 .0 .2)
 
 same-length : tie.Need-same-length
@@ -53,19 +61,20 @@ same-length-4 c = search needs
 
 returns : tie.Need-returns
 returns c =
-    let long : length (c .before .before .before .before .before .before .before .before .before .before .before .before .before .before .before .before .before .nearest .last .1 .1 .1 .1 .1 .1 .1 .0) ≡ length (c .before .before .before .before .before .before .before .before .before .before .before .before .before .before .before .before .before .before .before .before .before .before .before .before .before .before .before .before .before .before .before .before .before .args .marks .now) = search needs in
-    let s = c .before .before .before .before .before .before .before .before .before .before .before .before .before .before .before .before .before .before .before .before .before .before .before .before .before .before .before .before .before .before .before .before .before in
-    let walked = c .before .before .before .before .before .before .before .before .before .before .before .before .before .before .before .before .before .nearest in
-    let wiped = c .before .before .before .before .before .before .wipe .ensures in
-    end-is refl (wiped .0 ∙ ap (λ (k : ℕ). padded k []) (long ∙ s .pre .1 .1 .0)) (wiped .1 .0) (wiped .1 .1)
-    ∙ sym (Listing.nearest-refused (Ask s) (s .args .places) (s .pre .1 .0 .0) _ _ _ (walked .ensures) (s .args .marks .now) _ _ (s .pre .1 .1 .0) _ (c .before .before .before .before .before .before .before .before .before .before .before .met .given .1))
+    let at-wipe : tie.After-wipe = search in
+    let at-met : tie.After-met = search in
+    let walked : tie.After-nearest = search in
+    let s = start-of walked in
+    let wiped = at-wipe .wipe .ensures in
+    end-is refl (wiped .0 ∙ ap (λ (k : ℕ). padded k []) (long walked ∙ s .pre .1 .1 .0)) (wiped .1 .0) (wiped .1 .1)
+    ∙ sym (Listing.nearest-refused (Ask s) (s .args .places) (s .pre .1 .0 .0) _ _ _ (walked .nearest .ensures) (s .args .marks .now) _ _ (s .pre .1 .1 .0) _ (at-met .met .given .1))
 
 enum-told : tie.Need-enum-told
 enum-told c = search needs
 
 mul-limit : tie.Need-mul-limit
 mul-limit c =
-    let s = c .before .before .before .before .before .before .before .before .before .before .before .before .before .before .before .before .before .before .before .before .before .before .before in
+    let s : tie.Start = search in
     let w = facts _ (s .pre .0 .lent .known) .few-words in omega arith
 
 cast-rank : tie.Need-cast-rank
@@ -73,10 +82,10 @@ cast-rank c = search needs
 
 rank-requires : tie.Need-rank-requires
 rank-requires c κs =
-    let s = c .before .before .before .before .before .before .before .before .before .before .before .before .before .before .before .before .before .before .before .before .before .before .before .before .before .before .before .before in
-    let at-nearest = c .before .before .before .before .before .before .before .before .before .before .before .before .nearest in
-    let at-enum-told = c .before .before .before .before .before .before .enum-told in
-    Listing.rankable (Ask s) _ _ _ _ (s .pre .0) (at-nearest .ensures .clear (at-enum-told .given .1)) _ _ _ (s .pre .1 .0 .1) (s .pre .1 .0 .2)
+    let at-enum-told : tie.After-enum-told = search in
+    let at-nearest : tie.After-nearest = search in
+    let s = start-of at-nearest in
+    Listing.rankable (Ask s) _ _ _ _ (s .pre .0) (at-nearest .nearest .ensures .clear (at-enum-told .enum-told .given .1)) _ _ _ (s .pre .1 .0 .1) (s .pre .1 .0 .2)
 
 cast-smaller : tie.Need-cast-smaller
 cast-smaller c = search needs
@@ -101,14 +110,14 @@ same-length-8 c = search needs
 
 returns-2 : tie.Need-returns-2
 returns-2 c =
-    let s = c .before .before .before .before .before .before .before .before .before .before .before .before .before .before .before .before .before .before .before .before .before .before .before .before .before .before .before .before .before .before .before .before .before .before .before .before .before .before .before .before .before in
-    let at-nearest = c .before .before .before .before .before .before .before .before .before .before .before .before .before .before .before .before .before .before .before .before .before .before .before .before .before .nearest in
-    let at-enum-told = c .before .before .before .before .before .before .before .before .before .before .before .before .before .before .before .before .before .before .before .enum-told in
-    let at-rank = c .before .before .before .before .before .before .before .before .before .before .before .before .rank in
-    let ended = at-nearest .ensures .clear (at-enum-told .given .1) in
-    end-is (ap (λ (a : ℕ). Listed (record { answers = a; opened = at-nearest .result .opened; tested = at-nearest .result .tested })) (c .smaller .ensures))
-    (at-rank .ensures .cleared ∙ Ending.wiped-all _ _ (ended .long)) (at-rank .ensures .listed) (at-rank .ensures .measured)
-    ∙ sym (Listing.nearest-listed (Ask s) (s .args .places) (s .pre .1 .0 .0) _ _ _ (at-nearest .ensures) (s .args .marks .now) _ _ (s .pre .1 .1 .0) (at-enum-told .given .1))
+    let at-rank : tie.After-rank = search in
+    let at-enum-told : tie.After-enum-told = search in
+    let at-nearest : tie.After-nearest = search in
+    let s = start-of at-nearest in
+    let ended = at-nearest .nearest .ensures .clear (at-enum-told .enum-told .given .1) in
+    end-is (ap (λ (a : ℕ). Listed (record { answers = a; opened = at-nearest .nearest .result .opened; tested = at-nearest .nearest .result .tested })) (c .smaller .ensures))
+    (at-rank .rank .ensures .cleared ∙ Ending.wiped-all _ _ (ended .long)) (at-rank .rank .ensures .listed) (at-rank .rank .ensures .measured)
+    ∙ sym (Listing.nearest-listed (Ask s) (s .args .places) (s .pre .1 .0 .0) _ _ _ (at-nearest .nearest .ensures) (s .args .marks .now) _ _ (s .pre .1 .1 .0) (at-enum-told .enum-told .given .1))
 
 pub list-nearest-spec : {M : Type 1} → statement M
 list-nearest-spec =

@@ -17,6 +17,14 @@ use Rattle.search.proofs.list_within.Tie as tie
 abbrev Ask : tie.Start → Question
 Ask c = asks (c .args .shape) (c .args .stars .now) (c .args .codes .now) (c .args .starts .now) (c .args .ids .now) (c .args .query .now)
 
+-- the start, seen from behind a later call
+abbrev start-of : tie.After-within → tie.Start
+start-of c = c .before .before .before .before .before .before .before .before .before .before .before .before .before .before .before .before .before .before
+
+-- the walk leaves the marks as long as they were
+long : (c : tie.After-within) → length (c .within .last .1 .1 .1 .1 .1 .1 .1 .0) ≡ length (start-of c .args .marks .now)
+long c = search needs
+
 smaller-requires : tie.Need-smaller-requires
 smaller-requires c κs = search needs
 
@@ -28,9 +36,9 @@ clear-requires c κs = search needs
 
 within-requires : tie.Need-within-requires
 within-requires c κs =
-    let s = c .before .before .before .before .before .before .before .before .before .before .before .before .before .before .before .before .before in
-    let at-clear = c .before .before .before .before .clear in
-    (s .pre .0, (s .pre .1 .0, Listing.fresh _ (s .args .marks .now) _ _ (s .pre .1 .1 .0) (at-clear .ensures ∙ ap (λ (k : ℕ). over (padded k []) (s .args .marks .now)) (s .pre .1 .1 .0)) (s .pre .1 .1 .1)))
+    let at-clear : tie.After-clear = search in
+    let s : tie.Start = search in
+    (s .pre .0, (s .pre .1 .0, Listing.fresh _ (s .args .marks .now) _ _ (s .pre .1 .1 .0) (at-clear .clear .ensures ∙ ap (λ (k : ℕ). over (padded k []) (s .args .marks .now)) (s .pre .1 .1 .0)) (s .pre .1 .1 .1)))
 
 enum-known-met : tie.Need-enum-known-met
 enum-known-met c = search needs
@@ -52,12 +60,15 @@ same-length-4 c = search needs
 
 returns : tie.Need-returns
 returns c =
-    let long : length (c .before .before .before .before .before .before .before .before .before .before .before .before .before .before .before .before .before .within .last .1 .1 .1 .1 .1 .1 .1 .0) ≡ length (c .before .before .before .before .before .before .before .before .before .before .before .before .before .before .before .before .before .before .before .before .before .before .before .before .before .before .before .before .before .before .before .before .before .before .before .args .marks .now) = search needs in
-    let s = c .before .before .before .before .before .before .before .before .before .before .before .before .before .before .before .before .before .before .before .before .before .before .before .before .before .before .before .before .before .before .before .before .before .before .before in
-    let walked = c .before .before .before .before .before .before .before .before .before .before .before .before .before .before .before .before .before .within in
-    let wiped = c .before .before .before .before .before .before .wipe .ensures in
-    end-is refl (wiped .0 ∙ ap (λ (k : ℕ). padded k []) (long ∙ s .pre .1 .1 .0)) (wiped .1 .0) (wiped .1 .1)
-    ∙ sym (Listing.within-refused (Ask s) (s .args .r) _ _ _ (walked .ensures) (s .args .marks .now) _ _ (s .pre .1 .1 .0) _ _ (c .before .before .before .before .before .before .before .before .before .before .before .before .before .before .before .before .before .before .before .before .before .before .before .before .before .smaller .ensures) (c .before .before .before .before .before .before .before .before .before .before .before .before .before .before .before .before .before .before .before .before .before .before .before .before .smaller2 .ensures) _ (c .before .before .before .before .before .before .before .before .before .before .before .met .given .1))
+    let at-wipe : tie.After-wipe = search in
+    let at-met : tie.After-met = search in
+    let walked : tie.After-within = search in
+    let at-smaller2 : tie.After-smaller2 = search in
+    let at-smaller : tie.After-smaller = search in
+    let s = start-of walked in
+    let wiped = at-wipe .wipe .ensures in
+    end-is refl (wiped .0 ∙ ap (λ (k : ℕ). padded k []) (long walked ∙ s .pre .1 .1 .0)) (wiped .1 .0) (wiped .1 .1)
+    ∙ sym (Listing.within-refused (Ask s) (s .args .r) _ _ _ (walked .within .ensures) (s .args .marks .now) _ _ (s .pre .1 .1 .0) _ _ (at-smaller .smaller .ensures) (at-smaller2 .smaller2 .ensures) _ (at-met .met .given .1))
 
 enum-told : tie.Need-enum-told
 enum-told c = search needs
@@ -67,22 +78,22 @@ cast-rank c = search needs
 
 rank-requires : tie.Need-rank-requires
 rank-requires c κs =
-    let s = c .before .before .before .before .before .before .before .before .before .before .before .before .before .before .before .before .before .before .before .before .before .before .before .before .before .before .before .before .before in
-    let at-smaller = c .before .before .before .before .before .before .before .before .before .before .before .before .before .before .before .before .before .before .before .smaller in
-    let at-smaller2 = c .before .before .before .before .before .before .before .before .before .before .before .before .before .before .before .before .before .before .smaller2 in
-    let at-within = c .before .before .before .before .before .before .before .before .before .before .before .within in
-    let at-enum-told = c .before .before .before .before .before .enum-told in
-    let shorter = at-smaller .ensures in
-    let places = at-smaller2 .ensures in
-    Listing.rankable (Ask s) _ _ _ _ (s .pre .0) (at-within .ensures .clear (at-enum-told .given .1)) _ _ _ (omega arith) (omega arith)
+    let at-enum-told : tie.After-enum-told = search in
+    let at-within : tie.After-within = search in
+    let at-smaller2 : tie.After-smaller2 = search in
+    let at-smaller : tie.After-smaller = search in
+    let s = start-of at-within in
+    let shorter = at-smaller .smaller .ensures in
+    let places = at-smaller2 .smaller2 .ensures in
+    Listing.rankable (Ask s) _ _ _ _ (s .pre .0) (at-within .within .ensures .clear (at-enum-told .enum-told .given .1)) _ _ _ (omega arith) (omega arith)
 
 cast-if1 : tie.Need-cast-if1
 cast-if1 c =
-    let s = c .before .before .before .before .before .before .before .before .before .before .before .before .before .before .before .before .before .before .before .before .before .before .before .before .before .before .before .before .before .before .before .before .before .before .before .before .before .before in
-    let at-within = c .before .before .before .before .before .before .before .before .before .before .before .before .before .before .before .before .before .before .before .before .within in
-    let at-enum-told = c .before .before .before .before .before .before .before .before .before .before .before .before .before .before .enum-told in
+    let at-enum-told : tie.After-enum-told = search in
+    let at-within : tie.After-within = search in
+    let s = start-of at-within in
     let few = s .pre .0 .lent .few in
-    omega (arith, Listing.near-few (Ask s) _ _ _ _ (at-within .ensures .clear (at-enum-told .given .1)))
+    omega (arith, Listing.near-few (Ask s) _ _ _ _ (at-within .within .ensures .clear (at-enum-told .enum-told .given .1)))
 
 same-length-5 : tie.Need-same-length-5
 same-length-5 c = search needs
@@ -98,15 +109,15 @@ same-length-8 c = search needs
 
 returns-2 : tie.Need-returns-2
 returns-2 c =
-    let s = c .before .before .before .before .before .before .before .before .before .before .before .before .before .before .before .before .before .before .before .before .before .before .before .before .before .before .before .before .before .before .before .before .before .before .before .before .before .before .before in
-    let at-smaller = c .before .before .before .before .before .before .before .before .before .before .before .before .before .before .before .before .before .before .before .before .before .before .before .before .before .before .before .before .before .smaller in
-    let at-smaller2 = c .before .before .before .before .before .before .before .before .before .before .before .before .before .before .before .before .before .before .before .before .before .before .before .before .before .before .before .before .smaller2 in
-    let at-within = c .before .before .before .before .before .before .before .before .before .before .before .before .before .before .before .before .before .before .before .before .before .within in
-    let at-enum-told = c .before .before .before .before .before .before .before .before .before .before .before .before .before .before .before .enum-told in
-    let at-rank = c .before .before .before .before .before .before .before .before .before .rank in
-    let ended = at-within .ensures .clear (at-enum-told .given .1) in
-    end-is refl (at-rank .ensures .cleared ∙ Ending.wiped-all _ _ (ended .long)) (at-rank .ensures .listed) (at-rank .ensures .measured)
-    ∙ sym (Listing.within-many (Ask s) (s .args .r) _ _ _ (at-within .ensures) (s .args .marks .now) _ _ (s .pre .1 .1 .0) _ _ (at-smaller .ensures) (at-smaller2 .ensures) (at-enum-told .given .1) (c .if1 .taken))
+    let at-rank : tie.After-rank = search in
+    let at-enum-told : tie.After-enum-told = search in
+    let at-within : tie.After-within = search in
+    let at-smaller2 : tie.After-smaller2 = search in
+    let at-smaller : tie.After-smaller = search in
+    let s = start-of at-within in
+    let ended = at-within .within .ensures .clear (at-enum-told .enum-told .given .1) in
+    end-is refl (at-rank .rank .ensures .cleared ∙ Ending.wiped-all _ _ (ended .long)) (at-rank .rank .ensures .listed) (at-rank .rank .ensures .measured)
+    ∙ sym (Listing.within-many (Ask s) (s .args .r) _ _ _ (at-within .within .ensures) (s .args .marks .now) _ _ (s .pre .1 .1 .0) _ _ (at-smaller .smaller .ensures) (at-smaller2 .smaller2 .ensures) (at-enum-told .enum-told .given .1) (c .if1 .taken))
 
 same-length-9 : tie.Need-same-length-9
 same-length-9 c = search needs
@@ -122,15 +133,15 @@ same-length-12 c = search needs
 
 returns-3 : tie.Need-returns-3
 returns-3 c =
-    let s = c .before .before .before .before .before .before .before .before .before .before .before .before .before .before .before .before .before .before .before .before .before .before .before .before .before .before .before .before .before .before .before .before .before .before .before .before .before .before .before .before .before in
-    let at-smaller = c .before .before .before .before .before .before .before .before .before .before .before .before .before .before .before .before .before .before .before .before .before .before .before .before .before .before .before .before .before .before .before .smaller in
-    let at-smaller2 = c .before .before .before .before .before .before .before .before .before .before .before .before .before .before .before .before .before .before .before .before .before .before .before .before .before .before .before .before .before .before .smaller2 in
-    let at-within = c .before .before .before .before .before .before .before .before .before .before .before .before .before .before .before .before .before .before .before .before .before .before .before .within in
-    let at-enum-told = c .before .before .before .before .before .before .before .before .before .before .before .before .before .before .before .before .before .enum-told in
-    let at-rank = c .before .before .before .before .before .before .before .before .before .before .before .rank in
-    let ended = at-within .ensures .clear (at-enum-told .given .1) in
-    end-is refl (at-rank .ensures .cleared ∙ Ending.wiped-all _ _ (ended .long)) (at-rank .ensures .listed) (at-rank .ensures .measured)
-    ∙ sym (Listing.within-listed (Ask s) (s .args .r) _ _ _ (at-within .ensures) (s .args .marks .now) _ _ (s .pre .1 .1 .0) _ _ (at-smaller .ensures) (at-smaller2 .ensures) (at-enum-told .given .1) (c .before .before .if1 .left))
+    let at-rank : tie.After-rank = search in
+    let at-enum-told : tie.After-enum-told = search in
+    let at-within : tie.After-within = search in
+    let at-smaller2 : tie.After-smaller2 = search in
+    let at-smaller : tie.After-smaller = search in
+    let s = start-of at-within in
+    let ended = at-within .within .ensures .clear (at-enum-told .enum-told .given .1) in
+    end-is refl (at-rank .rank .ensures .cleared ∙ Ending.wiped-all _ _ (ended .long)) (at-rank .rank .ensures .listed) (at-rank .rank .ensures .measured)
+    ∙ sym (Listing.within-listed (Ask s) (s .args .r) _ _ _ (at-within .within .ensures) (s .args .marks .now) _ _ (s .pre .1 .1 .0) _ _ (at-smaller .smaller .ensures) (at-smaller2 .smaller2 .ensures) (at-enum-told .enum-told .given .1) (c .before .before .if1 .left))
 
 pub list-within-spec : {M : Type 1} → statement M
 list-within-spec =

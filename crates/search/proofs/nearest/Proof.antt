@@ -23,6 +23,10 @@ fit : (c : tie.Start) (e : Early) → e ≡ unless (oneToFive (Ask c .index) (c 
     → Refusing.Fit (Ask c) (0 ∷ []) (c .args .marks .now)
 fit c e h f = Refusing.fit (Ask c) (0 ∷ []) (c .args .marks .now) (sym h ∙ f)
 
+-- the start, seen from behind a later call
+abbrev start-of : tie.After-refused → tie.Start
+start-of c = c .before .before .before .before .before .before .before .before .before .before
+
 refused-requires : tie.Need-refused-requires
 refused-requires c κs = search needs
 
@@ -34,9 +38,9 @@ same-length c = search needs
 
 returns : tie.Need-returns
 returns c =
-    let s = c .before .before .before .before .before .before .before .before .before .before .before .before .before in
-    let at-refused = c .before .before .before .refused in
-    Answering.nearest-early (Ask s) _ _ _ (s .args .k) _ (sym (at-refused .ensures) ∙ c .before .early .given .1)
+    let at-refused : tie.After-refused = search in
+    let s : tie.Start = search in
+    Answering.nearest-early (Ask s) _ _ _ (s .args .k) _ (sym (at-refused .refused .ensures) ∙ c .before .early .given .1)
 
 enum-told : tie.Need-enum-told
 enum-told c = search needs
@@ -52,30 +56,30 @@ same-length-2 c = search needs
 
 returns-2 : tie.Need-returns-2
 returns-2 c =
-    let s = c .before .before .before .before .before .before .before .before .before .before .before .before .before .before .before in
-    let at-refused = c .before .before .before .before .before .refused in
-    let at-enum-told = c .before .before .before .enum-told in
+    let at-enum-told : tie.After-enum-told = search in
+    let at-refused : tie.After-refused = search in
+    let s : tie.Start = search in
     let few = c .if1 .taken in
     let room = c .before .smaller2 .ensures in
     let places = c .before .before .smaller .ensures in
-    Answering.nearest-few (Ask s) (s .args .marks .now) (s .args .entries .now) (s .args .distances .now) (s .args .k) (sym (at-refused .ensures) ∙ at-enum-told .given .1) (omega arith)
+    Answering.nearest-few (Ask s) (s .args .marks .now) (s .args .entries .now) (s .args .distances .now) (s .args .k) (sym (at-refused .refused .ensures) ∙ at-enum-told .enum-told .given .1) (omega arith)
 
 add-words : tie.Need-add-words
 add-words c = search needs
 
 slice-relend-prefix-list-nearest : tie.Need-slice-relend-prefix-list-nearest
 slice-relend-prefix-list-nearest c =
-    let s = c .before .before .before .before .before .before .before .before .before .before .before .before .before .before .before in
-    let at-refused = c .before .before .before .before .before .refused in
-    let at-enum-told = c .before .before .before .enum-told in
-    fit s _ (at-refused .ensures) (at-enum-told .given .1) .room
+    let at-enum-told : tie.After-enum-told = search in
+    let at-refused : tie.After-refused = search in
+    let s : tie.Start = search in
+    fit s _ (at-refused .refused .ensures) (at-enum-told .enum-told .given .1) .room
 
 slice-aggregate-list-nearest : tie.Need-slice-aggregate-list-nearest
 slice-aggregate-list-nearest c =
-    let s = c .before .before .before .before .before .before .before .before .before .before .before .before .before .before .before .before in
-    let at-refused = c .before .before .before .before .before .before .refused in
-    let at-enum-told = c .before .before .before .before .enum-told in
-    sym (length-take-le _ _ (fit s _ (at-refused .ensures) (at-enum-told .given .1) .room))
+    let at-enum-told : tie.After-enum-told = search in
+    let at-refused : tie.After-refused = search in
+    let s : tie.Start = search in
+    sym (length-take-le _ _ (fit s _ (at-refused .refused .ensures) (at-enum-told .enum-told .given .1) .room))
 
 slice-aggregate-list-nearest-2 : tie.Need-slice-aggregate-list-nearest-2
 slice-aggregate-list-nearest-2 c = search needs
@@ -83,16 +87,16 @@ slice-aggregate-list-nearest-2 c = search needs
 list-nearest-requires : tie.Need-list-nearest-requires
 unfolding cat
 list-nearest-requires c κs =
-    let s = c .before .before .before .before .before .before .before .before .before .before .before .before .before .before .before .before .before .before .before in
-    let at-refused = c .before .before .before .before .before .before .before .before .before .refused in
-    let at-enum-told = c .before .before .before .before .before .before .before .enum-told in
-    let at-smaller = c .before .before .before .before .before .before .smaller in
-    let at-smaller2 = c .before .before .before .before .before .smaller2 in
-    let at-if1 = c .before .before .before .before .if1 in
-    let f = fit s _ (at-refused .ensures) (at-enum-told .given .1) in
-    let enough = at-if1 .left in
-    let room = at-smaller2 .ensures in
-    let places = at-smaller .ensures in
+    let at-if1 : tie.Else1 = search in
+    let at-smaller2 : tie.After-smaller2 = search in
+    let at-smaller : tie.After-smaller = search in
+    let at-enum-told : tie.After-enum-told = search in
+    let at-refused : tie.After-refused = search in
+    let s = start-of at-refused in
+    let f = fit s _ (at-refused .refused .ensures) (at-enum-told .enum-told .given .1) in
+    let enough = at-if1 .if1 .left in
+    let room = at-smaller2 .smaller2 .ensures in
+    let places = at-smaller .smaller .ensures in
     (f .asked, ((omega arith, omega arith, omega arith), (length-take-le _ _ (f .room), refl)))
 
 same-length-3 : tie.Need-same-length-3
@@ -106,18 +110,18 @@ same-length-5 c = search needs
 
 returns-3 : tie.Need-returns-3
 returns-3 c =
-    let s = c .before .before .before .before .before .before .before .before .before .before .before .before .before .before .before .before .before .before .before .before .before .before .before .before .before .before .before in
-    let at-refused = c .before .before .before .before .before .before .before .before .before .before .before .before .before .before .before .before .before .refused in
-    let at-enum-told = c .before .before .before .before .before .before .before .before .before .before .before .before .before .before .before .enum-told in
-    let at-smaller = c .before .before .before .before .before .before .before .before .before .before .before .before .before .before .smaller in
-    let at-smaller2 = c .before .before .before .before .before .before .before .before .before .before .before .before .before .smaller2 in
-    let at-if1 = c .before .before .before .before .before .before .before .before .before .before .before .before .if1 in
-    let at-list-nearest = c .before .before .before .before .before .before .before .list-nearest in
-    let enough = at-if1 .left in
-    let room = at-smaller2 .ensures in
-    let places = at-smaller .ensures in
-    Answering.nearest-whole (Ask s) (s .args .marks .now) (s .args .entries .now) (s .args .distances .now) (s .args .k) (sym (at-refused .ensures) ∙ at-enum-told .given .1) (omega arith)
-    (fit s _ (at-refused .ensures) (at-enum-told .given .1) .room) (rw places at (at-list-nearest .ensures))
+    let at-list-nearest : tie.After-list-nearest = search in
+    let at-if1 : tie.Else1 = search in
+    let at-smaller2 : tie.After-smaller2 = search in
+    let at-smaller : tie.After-smaller = search in
+    let at-enum-told : tie.After-enum-told = search in
+    let at-refused : tie.After-refused = search in
+    let s = start-of at-refused in
+    let enough = at-if1 .if1 .left in
+    let room = at-smaller2 .smaller2 .ensures in
+    let places = at-smaller .smaller .ensures in
+    Answering.nearest-whole (Ask s) (s .args .marks .now) (s .args .entries .now) (s .args .distances .now) (s .args .k) (sym (at-refused .refused .ensures) ∙ at-enum-told .enum-told .given .1) (omega arith)
+    (fit s _ (at-refused .refused .ensures) (at-enum-told .enum-told .given .1) .room) (rw places at (at-list-nearest .list-nearest .ensures))
 
 pub nearest-spec : {M : Type 1} → statement M
 nearest-spec =

@@ -31,7 +31,7 @@ enum-told c = search needs
 
 returns : tie.Need-returns
 returns c =
-    let s = c .before .before .before .before .before .before .before .before .before in
+    let s : tie.Start = search in
     Refusing.refused-first (X s) (s .args .query .now) (s .args .limit ∷ []) (s .args .marks .now) _ (c .before .before .refused-early .ensures) _ (c .enum-told .given .1)
 
 enum-told-2 : tie.Need-enum-told-2
@@ -43,26 +43,26 @@ cast-if1 c = search needs
 returns-2 : tie.Need-returns-2
 unfolding unless any
 returns-2 c =
-    let s = c .before .before .before .before .before .before .before .before .before .before .before in
-    let at-refused-early = c .before .before .before .before .refused-early in
-    sym (next s _ (at-refused-early .ensures) (c .before .before .enum-told2 .given .1) ∙ rw (ne-eqb _ _ (c .if1 .taken)))
+    let at-refused-early : tie.After-refused-early = search in
+    let s : tie.Start = search in
+    sym (next s _ (at-refused-early .refused-early .ensures) (c .before .before .enum-told2 .given .1) ∙ rw (ne-eqb _ _ (c .if1 .taken)))
 
 mul-if2 : tie.Need-mul-if2
 mul-if2 c =
-    let s = c .before .before .before .before .before .before .before .before .before .before .before .before in
-    let at-refused-early = c .before .before .before .before .before .refused-early in
-    let at-enum-told2 = c .before .before .before .enum-told2 in
-    let l = Refusing.lent (X s) (Refusing.none-fits _ (sym (at-refused-early .ensures) ∙ at-enum-told2 .given .1)) in
+    let at-enum-told2 : tie.After-enum-told2 = search in
+    let at-refused-early : tie.After-refused-early = search in
+    let s : tie.Start = search in
+    let l = Refusing.lent (X s) (Refusing.none-fits _ (sym (at-refused-early .refused-early .ensures) ∙ at-enum-told2 .enum-told2 .given .1)) in
     let w = facts _ (l .known) .few-words in
     omega arith
 
 returns-3 : tie.Need-returns-3
 unfolding unless any
 returns-3 c =
-    let s = c .before .before .before .before .before .before .before .before .before .before .before .before .before in
-    let at-refused-early = c .before .before .before .before .before .before .refused-early in
-    let at-enum-told2 = c .before .before .before .before .enum-told2 in
-    sym (next s _ (at-refused-early .ensures) (at-enum-told2 .given .1) ∙ rw (eq-eqb _ _ (c .before .before .if1 .left), lt-ltb _ _ (c .if2 .taken)))
+    let at-enum-told2 : tie.After-enum-told2 = search in
+    let at-refused-early : tie.After-refused-early = search in
+    let s : tie.Start = search in
+    sym (next s _ (at-refused-early .refused-early .ensures) (at-enum-told2 .enum-told2 .given .1) ∙ rw (eq-eqb _ _ (c .before .before .if1 .left), lt-ltb _ _ (c .if2 .taken)))
 
 add-if3 : tie.Need-add-if3
 add-if3 c = search needs
@@ -70,20 +70,20 @@ add-if3 c = search needs
 returns-4 : tie.Need-returns-4
 unfolding unless any
 returns-4 c =
-    let s = c .before .before .before .before .before .before .before .before .before .before .before .before .before .before in
-    let at-refused-early = c .before .before .before .before .before .before .before .refused-early in
-    let at-enum-told2 = c .before .before .before .before .before .enum-told2 in
-    let at-if1 = c .before .before .before .if1 in
-    sym (next s _ (at-refused-early .ensures) (at-enum-told2 .given .1) ∙ rw (eq-eqb _ _ (at-if1 .left), le-ltb _ _ (c .before .if2 .left), lt-ltb _ _ (c .if3 .taken)))
+    let at-if1 : tie.Else1 = search in
+    let at-enum-told2 : tie.After-enum-told2 = search in
+    let at-refused-early : tie.After-refused-early = search in
+    let s : tie.Start = search in
+    sym (next s _ (at-refused-early .refused-early .ensures) (at-enum-told2 .enum-told2 .given .1) ∙ rw (eq-eqb _ _ (at-if1 .if1 .left), le-ltb _ _ (c .before .if2 .left), lt-ltb _ _ (c .if3 .taken)))
 
 returns-5 : tie.Need-returns-5
 unfolding unless any
 returns-5 c =
-    let s = c .before .before .before .before .before .before .before .before .before .before .before .before .before .before in
-    let at-refused-early = c .before .before .before .before .before .before .before .refused-early in
-    let at-enum-told2 = c .before .before .before .before .before .enum-told2 in
-    let at-if1 = c .before .before .before .if1 in
-    sym (next s _ (at-refused-early .ensures) (at-enum-told2 .given .1) ∙ rw (eq-eqb _ _ (at-if1 .left), le-ltb _ _ (c .before .if2 .left), le-ltb _ _ (c .if3 .left)))
+    let at-if1 : tie.Else1 = search in
+    let at-enum-told2 : tie.After-enum-told2 = search in
+    let at-refused-early : tie.After-refused-early = search in
+    let s : tie.Start = search in
+    sym (next s _ (at-refused-early .refused-early .ensures) (at-enum-told2 .enum-told2 .given .1) ∙ rw (eq-eqb _ _ (at-if1 .if1 .left), le-ltb _ _ (c .before .if2 .left), le-ltb _ _ (c .if3 .left)))
 
 pub refused-spec : {M : Type 1} → statement M
 refused-spec =

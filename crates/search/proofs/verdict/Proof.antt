@@ -32,6 +32,10 @@ fit : (c : tie.Start) (limit : ℕ) (e : Early) → limit ≡ max (c .args .t) (
     → Refusing.Fit (Ask c) (max (c .args .t) (c .args .g) ∷ []) (c .args .marks .now)
 fit c limit e m h f = Refusing.fit (Ask c) (max (c .args .t) (c .args .g) ∷ []) (c .args .marks .now) (outcome c limit e m h ∙ f)
 
+-- the start, seen from behind a later call
+abbrev start-of : tie.After-refused → tie.Start
+start-of c = c .before .before .before .before .before .before .before .before .before
+
 larger-requires : tie.Need-larger-requires
 larger-requires c κs = search needs
 
@@ -46,10 +50,10 @@ same-length c = search needs
 
 returns : tie.Need-returns
 returns c =
-    let s = c .before .before .before .before .before .before .before .before .before .before .before .before in
-    let at-larger = c .before .before .before .before .before .larger in
-    let at-refused = c .before .before .before .refused in
-    Verdicts.verdict-early (Ask s) _ _ _ _ (outcome s _ _ (at-larger .ensures) (at-refused .ensures) ∙ c .before .early .given .1)
+    let at-refused : tie.After-refused = search in
+    let at-larger : tie.After-larger = search in
+    let s : tie.Start = search in
+    Verdicts.verdict-early (Ask s) _ _ _ _ (outcome s _ _ (at-larger .larger .ensures) (at-refused .refused .ensures) ∙ c .before .early .given .1)
 
 enum-told : tie.Need-enum-told
 enum-told c = search needs
@@ -62,17 +66,17 @@ add-words c = search needs
 
 slice-relend-prefix-list-nearest : tie.Need-slice-relend-prefix-list-nearest
 slice-relend-prefix-list-nearest c =
-    let s = c .before .before .before .before .before .before .before .before .before .before .before .before in
-    let at-larger = c .before .before .before .before .before .larger in
-    let at-refused = c .before .before .before .refused in
-    fit s _ _ (at-larger .ensures) (at-refused .ensures) (c .before .enum-told .given .1) .room
+    let at-refused : tie.After-refused = search in
+    let at-larger : tie.After-larger = search in
+    let s : tie.Start = search in
+    fit s _ _ (at-larger .larger .ensures) (at-refused .refused .ensures) (c .before .enum-told .given .1) .room
 
 slice-aggregate-list-nearest : tie.Need-slice-aggregate-list-nearest
 slice-aggregate-list-nearest c =
-    let s = c .before .before .before .before .before .before .before .before .before .before .before .before .before in
-    let at-larger = c .before .before .before .before .before .before .larger in
-    let at-refused = c .before .before .before .before .refused in
-    sym (length-take-le _ _ (fit s _ _ (at-larger .ensures) (at-refused .ensures) (c .before .before .enum-told .given .1) .room))
+    let at-refused : tie.After-refused = search in
+    let at-larger : tie.After-larger = search in
+    let s : tie.Start = search in
+    sym (length-take-le _ _ (fit s _ _ (at-larger .larger .ensures) (at-refused .refused .ensures) (c .before .before .enum-told .given .1) .room))
 
 slice-aggregate-list-nearest-2 : tie.Need-slice-aggregate-list-nearest-2
 slice-aggregate-list-nearest-2 c = search needs
@@ -86,13 +90,13 @@ slice-aggregate-list-nearest-4 c = search needs
 list-nearest-requires : tie.Need-list-nearest-requires
 unfolding cat
 list-nearest-requires c κs =
-    let s = c .before .before .before .before .before .before .before .before .before .before .before .before .before .before .before .before in
-    let at-larger = c .before .before .before .before .before .before .before .before .before .larger in
-    let at-refused = c .before .before .before .before .before .before .before .refused in
-    let at-enum-told = c .before .before .before .before .before .enum-told in
-    let at-smaller = c .before .before .before .before .smaller in
-    let f = fit s _ _ (at-larger .ensures) (at-refused .ensures) (at-enum-told .given .1) in
-    let places = at-smaller .ensures in
+    let at-smaller : tie.After-smaller = search in
+    let at-enum-told : tie.After-enum-told = search in
+    let at-refused : tie.After-refused = search in
+    let at-larger : tie.After-larger = search in
+    let s : tie.Start = search in
+    let f = fit s _ _ (at-larger .larger .ensures) (at-refused .refused .ensures) (at-enum-told .enum-told .given .1) in
+    let places = at-smaller .smaller .ensures in
     (f .asked, ((omega arith, omega arith, omega arith), (length-take-le _ _ (f .room), refl)))
 
 enum-known-found : tie.Need-enum-known-found
@@ -109,32 +113,32 @@ slice-aggregate-judge-2 c = search needs
 
 judge-requires : tie.Need-judge-requires
 judge-requires c κs =
-    let s = c .before .before .before .before .before .before .before .before .before .before .before .before .before .before .before .before .before .before .before .before .before .before .before .before .before .before .before in
-    let at-larger = c .before .before .before .before .before .before .before .before .before .before .before .before .before .before .before .before .before .before .before .before .larger in
-    let at-refused = c .before .before .before .before .before .before .before .before .before .before .before .before .before .before .before .before .before .before .refused in
-    let at-enum-told = c .before .before .before .before .before .before .before .before .before .before .before .before .before .before .before .before .enum-told in
-    let at-smaller = c .before .before .before .before .before .before .before .before .before .before .before .before .before .before .before .smaller in
-    let at-list-nearest = c .before .before .before .before .before .before .before .before .before .before .list-nearest in
-    let at-found2 = c .before .before .before .found2 in
-    let fine = outcome s _ _ (at-larger .ensures) (at-refused .ensures) ∙ at-enum-told .given .1 in
-    let room = fit s _ _ (at-larger .ensures) (at-refused .ensures) (at-enum-told .given .1) .room in
-    let end = rw (at-smaller .ensures) at (at-list-nearest .ensures) in
-    Verdicts.first-two (Ask s) (s .args .marks .now) (s .args .t) (s .args .g) fine room _ _ _ _ end _ (at-found2 .given .1)
+    let at-found2 : tie.After-found2 = search in
+    let at-list-nearest : tie.After-list-nearest = search in
+    let at-smaller : tie.After-smaller = search in
+    let at-enum-told : tie.After-enum-told = search in
+    let at-refused : tie.After-refused = search in
+    let at-larger : tie.After-larger = search in
+    let s = start-of at-refused in
+    let fine = outcome s _ _ (at-larger .larger .ensures) (at-refused .refused .ensures) ∙ at-enum-told .enum-told .given .1 in
+    let room = fit s _ _ (at-larger .larger .ensures) (at-refused .refused .ensures) (at-enum-told .enum-told .given .1) .room in
+    let end = rw (at-smaller .smaller .ensures) at (at-list-nearest .list-nearest .ensures) in
+    Verdicts.first-two (Ask s) (s .args .marks .now) (s .args .t) (s .args .g) fine room _ _ _ _ end _ (at-found2 .found2 .given .1)
 
 same-length-2 : tie.Need-same-length-2
 same-length-2 c = search needs
 
 returns-2 : tie.Need-returns-2
 returns-2 c =
-    let s = c .before .before .before .before .before .before .before .before .before .before .before .before .before .before .before .before .before .before .before .before .before .before .before .before .before in
-    let at-larger = c .before .before .before .before .before .before .before .before .before .before .before .before .before .before .before .before .before .before .larger in
-    let at-refused = c .before .before .before .before .before .before .before .before .before .before .before .before .before .before .before .before .refused in
-    let at-enum-told = c .before .before .before .before .before .before .before .before .before .before .before .before .before .before .enum-told in
-    let at-smaller = c .before .before .before .before .before .before .before .before .before .before .before .before .before .smaller in
-    let at-list-nearest = c .before .before .before .before .before .before .before .before .list-nearest in
-    let fine = outcome s _ _ (at-larger .ensures) (at-refused .ensures) ∙ at-enum-told .given .1 in
-    let room = fit s _ _ (at-larger .ensures) (at-refused .ensures) (at-enum-told .given .1) .room in
-    let end = rw (at-smaller .ensures) at (at-list-nearest .ensures) in
+    let at-list-nearest : tie.After-list-nearest = search in
+    let at-smaller : tie.After-smaller = search in
+    let at-enum-told : tie.After-enum-told = search in
+    let at-refused : tie.After-refused = search in
+    let at-larger : tie.After-larger = search in
+    let s : tie.Start = search in
+    let fine = outcome s _ _ (at-larger .larger .ensures) (at-refused .refused .ensures) ∙ at-enum-told .enum-told .given .1 in
+    let room = fit s _ _ (at-larger .larger .ensures) (at-refused .refused .ensures) (at-enum-told .enum-told .given .1) .room in
+    let end = rw (at-smaller .smaller .ensures) at (at-list-nearest .list-nearest .ensures) in
     Verdicts.verdict-refused (Ask s) (s .args .marks .now) (s .args .t) (s .args .g) fine room _ _ _ _ end _ (c .before .found .given .1)
 
 same-length-3 : tie.Need-same-length-3
@@ -142,18 +146,18 @@ same-length-3 c = search needs
 
 returns-3 : tie.Need-returns-3
 returns-3 c =
-    let s = c .before .before .before .before .before .before .before .before .before .before .before .before .before .before .before .before .before .before .before .before .before .before .before .before .before .before .before .before .before .before in
-    let at-larger = c .before .before .before .before .before .before .before .before .before .before .before .before .before .before .before .before .before .before .before .before .before .before .before .larger in
-    let at-refused = c .before .before .before .before .before .before .before .before .before .before .before .before .before .before .before .before .before .before .before .before .before .refused in
-    let at-enum-told = c .before .before .before .before .before .before .before .before .before .before .before .before .before .before .before .before .before .before .before .enum-told in
-    let at-smaller = c .before .before .before .before .before .before .before .before .before .before .before .before .before .before .before .before .before .before .smaller in
-    let at-list-nearest = c .before .before .before .before .before .before .before .before .before .before .before .before .before .list-nearest in
-    let at-found2 = c .before .before .before .before .before .before .found2 in
-    let fine = outcome s _ _ (at-larger .ensures) (at-refused .ensures) ∙ at-enum-told .given .1 in
-    let room = fit s _ _ (at-larger .ensures) (at-refused .ensures) (at-enum-told .given .1) .room in
-    let end = rw (at-smaller .ensures) at (at-list-nearest .ensures) in
-    let rep = at-found2 .given .0 .0 in
-    let is = at-found2 .given .1 in
+    let at-found2 : tie.After-found2 = search in
+    let at-list-nearest : tie.After-list-nearest = search in
+    let at-smaller : tie.After-smaller = search in
+    let at-enum-told : tie.After-enum-told = search in
+    let at-refused : tie.After-refused = search in
+    let at-larger : tie.After-larger = search in
+    let s = start-of at-refused in
+    let fine = outcome s _ _ (at-larger .larger .ensures) (at-refused .refused .ensures) ∙ at-enum-told .enum-told .given .1 in
+    let room = fit s _ _ (at-larger .larger .ensures) (at-refused .refused .ensures) (at-enum-told .enum-told .given .1) .room in
+    let end = rw (at-smaller .smaller .ensures) at (at-list-nearest .list-nearest .ensures) in
+    let rep = at-found2 .found2 .given .0 .0 in
+    let is = at-found2 .found2 .given .1 in
     Verdicts.verdict-given (Ask s) (s .args .marks .now) (s .args .t) (s .args .g) fine room _ _ _ _ end rep is _
     (c .before .before .judge .ensures (distanceOf (Ask s)) (Verdicts.same-distances (Ask s) (s .args .marks .now) (s .args .t) (s .args .g) fine room _ _ _ _ end rep is)
     ∙ ap (verdictOf (λ i. getD (s .args .stars .now) i 0) (distanceOf (Ask s)) (s .args .t) (s .args .g)) (Verdicts.same-entries (Ask s) (s .args .marks .now) (s .args .t) (s .args .g) fine room _ _ _ _ end rep is))

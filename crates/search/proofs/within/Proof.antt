@@ -24,6 +24,10 @@ fit : (c : tie.Start) (e : Early) → e ≡ unless (oneToFive (Ask c .index) (c 
     → Refusing.Fit (Ask c) (c .args .r ∷ []) (c .args .marks .now)
 fit c e h f = Refusing.fit (Ask c) (c .args .r ∷ []) (c .args .marks .now) (sym h ∙ f)
 
+-- the start, seen from behind a later call
+abbrev start-of : tie.After-refused → tie.Start
+start-of c = c .before .before .before .before .before .before .before .before .before .before
+
 refused-requires : tie.Need-refused-requires
 refused-requires c κs = search needs
 
@@ -35,9 +39,9 @@ same-length c = search needs
 
 returns : tie.Need-returns
 returns c =
-    let s = c .before .before .before .before .before .before .before .before .before .before .before .before .before in
-    let at-refused = c .before .before .before .refused in
-    Answering.within-early (Ask s) _ _ _ _ _ (sym (at-refused .ensures) ∙ c .before .early .given .1)
+    let at-refused : tie.After-refused = search in
+    let s : tie.Start = search in
+    Answering.within-early (Ask s) _ _ _ _ _ (sym (at-refused .refused .ensures) ∙ c .before .early .given .1)
 
 enum-told : tie.Need-enum-told
 enum-told c = search needs
@@ -46,13 +50,15 @@ add-words : tie.Need-add-words
 add-words c = search needs
 
 slice-relend-prefix-list-within : tie.Need-slice-relend-prefix-list-within
-slice-relend-prefix-list-within c = fit (c .before .before .before .before .before .before .before .before .before .before .before .before) _ (c .before .before .refused .ensures) (c .enum-told .given .1) .room
+slice-relend-prefix-list-within c =
+    let s : tie.Start = search in
+    fit s _ (c .before .before .refused .ensures) (c .enum-told .given .1) .room
 
 slice-aggregate-list-within : tie.Need-slice-aggregate-list-within
 slice-aggregate-list-within c =
-    let s = c .before .before .before .before .before .before .before .before .before .before .before .before .before in
-    let at-refused = c .before .before .before .refused in
-    sym (length-take-le _ _ (fit s _ (at-refused .ensures) (c .before .enum-told .given .1) .room))
+    let at-refused : tie.After-refused = search in
+    let s : tie.Start = search in
+    sym (length-take-le _ _ (fit s _ (at-refused .refused .ensures) (c .before .enum-told .given .1) .room))
 
 slice-aggregate-list-within-2 : tie.Need-slice-aggregate-list-within-2
 slice-aggregate-list-within-2 c = search needs
@@ -60,10 +66,10 @@ slice-aggregate-list-within-2 c = search needs
 list-within-requires : tie.Need-list-within-requires
 unfolding cat
 list-within-requires c κs =
-    let s = c .before .before .before .before .before .before .before .before .before .before .before .before .before .before .before .before in
-    let at-refused = c .before .before .before .before .before .before .refused in
-    let at-enum-told = c .before .before .before .before .enum-told in
-    let f = fit s _ (at-refused .ensures) (at-enum-told .given .1) in
+    let at-enum-told : tie.After-enum-told = search in
+    let at-refused : tie.After-refused = search in
+    let s : tie.Start = search in
+    let f = fit s _ (at-refused .refused .ensures) (at-enum-told .enum-told .given .1) in
     (f .asked, (ltb-false _ _ (sym (any-one _ _) ∙ f .limited), (length-take-le _ _ (f .room), refl)))
 
 same-length-2 : tie.Need-same-length-2
@@ -77,11 +83,11 @@ same-length-4 c = search needs
 
 returns-2 : tie.Need-returns-2
 returns-2 c =
-    let s = c .before .before .before .before .before .before .before .before .before .before .before .before .before .before .before .before .before .before .before .before .before .before .before .before in
-    let at-refused = c .before .before .before .before .before .before .before .before .before .before .before .before .before .before .refused in
-    let at-enum-told = c .before .before .before .before .before .before .before .before .before .before .before .before .enum-told in
-    let at-list-within = c .before .before .before .before .before .before .before .list-within in
-    Answering.within-whole (Ask s) (s .args .marks .now) _ _ (s .args .r) (sym (at-refused .ensures) ∙ at-enum-told .given .1) (fit s _ (at-refused .ensures) (at-enum-told .given .1) .room) (at-list-within .ensures)
+    let at-list-within : tie.After-list-within = search in
+    let at-enum-told : tie.After-enum-told = search in
+    let at-refused : tie.After-refused = search in
+    let s = start-of at-refused in
+    Answering.within-whole (Ask s) (s .args .marks .now) _ _ (s .args .r) (sym (at-refused .refused .ensures) ∙ at-enum-told .enum-told .given .1) (fit s _ (at-refused .refused .ensures) (at-enum-told .enum-told .given .1) .room) (at-list-within .list-within .ensures)
 
 pub within-spec : {M : Type 1} → statement M
 within-spec =

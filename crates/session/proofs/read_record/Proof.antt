@@ -13,13 +13,18 @@ got-in : (c : tie.After-read-full) → c .read-full .result ≤ length (c .read-
 got-in c = c .read-full .ensures .0
 
 got-4 : (c : tie.After-read-full) → c .read-full .result ≤ 4
-got-4 c = omega (arith, got-in c, c .read-full .kept .1 .0, length-take 4 (c .before .before .before .args .buf .now))
+got-4 c =
+    let s : tie.Start = search in
+    omega (arith, got-in c, c .read-full .kept .1 .0, length-take 4 (s .args .buf .now))
 
 all : (c : tie.After-slice-known3) → c .before .before .before .before .before .before .before .before .before .read-full .result + c .before .before .read-full2 .result ≤ 8197
 all c =
-    let n = c .before .before .before .before .before .body-length .result in
-    let l = c .before .before .before .before .before .before .before .before .before .read-full .last .1 .0 ++ drop 4 (c .before .before .before .before .before .before .before .before .before .before .before .before .args .buf .now) in
-    omega (arith, got-4 (c .before .before .before .before .before .before .before .before .before), c .before .before .read-full2 .ensures .0, c .before .before .read-full2 .kept .1 .0, length-take (4 + n - 4) (drop 4 l), c .before .before .before .before .before .body-length .ensures .1)
+    let at-body-length : tie.After-body-length = search in
+    let at-read-full : tie.After-read-full = search in
+    let s : tie.Start = search in
+    let n = at-body-length .body-length .result in
+    let l = at-read-full .read-full .last .1 .0 ++ drop 4 (s .args .buf .now) in
+    omega (arith, got-4 at-read-full, c .before .before .read-full2 .ensures .0, c .before .before .read-full2 .kept .1 .0, length-take (4 + n - 4) (drop 4 l), at-body-length .body-length .ensures .1)
 
 slice-relend-prefix-read-full : tie.Need-slice-relend-prefix-read-full
 slice-relend-prefix-read-full c = search needs
@@ -31,12 +36,16 @@ read-full-requires : tie.Need-read-full-requires
 read-full-requires c κs = search needs
 
 slice-reshare-prefix-body-length : tie.Need-slice-reshare-prefix-body-length
-slice-reshare-prefix-body-length c = omega (arith, got-in (c .before .before), length-append (c .before .before .read-full .last .1 .0) (drop 4 (c .before .before .before .before .before .args .buf .now)))
+slice-reshare-prefix-body-length c =
+    let s : tie.Start = search in
+    omega (arith, got-in (c .before .before), length-append (c .before .before .read-full .last .1 .0) (drop 4 (s .args .buf .now)))
 
 slice-aggregate-body-length : tie.Need-slice-aggregate-body-length
 slice-aggregate-body-length c =
-    sym (length-take-le (c .before .before .before .read-full .result) (c .before .before .before .read-full .last .1 .0 ++ drop 4 (c .before .before .before .before .before .before .args .buf .now))
-    (omega (arith, got-in (c .before .before .before), length-append (c .before .before .before .read-full .last .1 .0) (drop 4 (c .before .before .before .before .before .before .args .buf .now)))))
+    let at-read-full : tie.After-read-full = search in
+    let s : tie.Start = search in
+    sym (length-take-le (at-read-full .read-full .result) (at-read-full .read-full .last .1 .0 ++ drop 4 (s .args .buf .now))
+    (omega (arith, got-in at-read-full, length-append (at-read-full .read-full .last .1 .0) (drop 4 (s .args .buf .now)))))
 
 body-length-requires : tie.Need-body-length-requires
 body-length-requires c κs = search needs
@@ -45,7 +54,9 @@ same-length : tie.Need-same-length
 same-length c = search needs
 
 returns : tie.Need-returns
-returns c = omega (arith, got-4 (c .before .before .before .before .before))
+returns c =
+    let at-read-full : tie.After-read-full = search in
+    omega (arith, got-4 at-read-full)
 
 add-end : tie.Need-add-end
 add-end c = search needs

@@ -28,7 +28,9 @@ slice-reshare-prefix-turn : tie.Need-slice-reshare-prefix-turn Inv-loop μ-loop
 slice-reshare-prefix-turn c = omega (arith, c .before .before .read-record .kept .0)
 
 slice-aggregate-turn : tie.Need-slice-aggregate-turn Inv-loop μ-loop
-slice-aggregate-turn c = sym (length-take-le (c .before .before .before .read-record .result) (c .before .before .before .read-record .last .0) (omega (arith, c .before .before .before .read-record .kept .0)))
+slice-aggregate-turn c =
+    let at-read-record : tie.After-read-record Inv-loop μ-loop = search in
+    sym (length-take-le (at-read-record .read-record .result) (at-read-record .read-record .last .0) (omega (arith, at-read-record .read-record .kept .0)))
 
 turn-requires : tie.Need-turn-requires Inv-loop μ-loop
 turn-requires c κs = search needs
@@ -37,19 +39,26 @@ write-text-requires : tie.Need-write-text-requires Inv-loop μ-loop
 write-text-requires c κs = search needs
 
 same-length : tie.Need-same-length Inv-loop μ-loop
-same-length c = c .before .before .before .before .before .before .before .before .before .before .before .before .before .before .before .before .read-record .kept .0 ∙ c .before .before .before .before .before .before .before .before .before .before .before .before .before .before .before .before .before .before .loop .inv .1
+same-length c =
+    let at-read-record : tie.After-read-record Inv-loop μ-loop = search in
+    let at-loop : tie.At-loop Inv-loop μ-loop = search in
+    at-read-record .read-record .kept .0 ∙ at-loop .loop .inv .1
 
 returns : tie.Need-returns Inv-loop μ-loop
 returns c = search needs
 
 loop-less : tie.Need-loop-less Inv-loop μ-loop
 loop-less c =
-    let g = less-left (c .before .before .before .before .before .before .before .before .before .before .before .before .before .before .before .before .before .before .before .loop .session) _ _ _ (c .before .before .before .before .before .turn .ensures) (c .before .if1 .left) in
+    let at-loop : tie.At-loop Inv-loop μ-loop = search in
+    let at-turn : tie.After-turn Inv-loop μ-loop = search in
+    let g = less-left (at-loop .loop .session) _ _ _ (at-turn .turn .ensures) (c .before .if1 .left) in
     omega arith
 
 loop-again : tie.Need-loop-again Inv-loop μ-loop
 loop-again c =
-    (omega (arith, c .before .before .before .before .before .before .before .before .before .before .before .before .before .before .before .before .before .read-record .kept .0), c .before .before .before .before .before .before .before .before .before .before .before .before .before .before .before .before .before .read-record .kept .0 ∙ c .before .before .before .before .before .before .before .before .before .before .before .before .before .before .before .before .before .before .before .loop .inv .1)
+    let at-read-record : tie.After-read-record Inv-loop μ-loop = search in
+    let at-loop : tie.At-loop Inv-loop μ-loop = search in
+    (omega (arith, at-read-record .read-record .kept .0), at-read-record .read-record .kept .0 ∙ at-loop .loop .inv .1)
 
 pub run-spec : {M : Type 1} → statement M
 run-spec =

@@ -8,7 +8,8 @@ use Rattle.session.proofs.write_text.Tie as tie
 
 slice-aggregate-write-all : tie.Need-slice-aggregate-write-all
 slice-aggregate-write-all c =
-    sym (length-take-le _ (c .before .before .before .args .out .now) (omega arith))
+    let s : tie.Start = search in
+    sym (length-take-le _ (s .args .out .now) (omega arith))
 
 write-all-requires : tie.Need-write-all-requires
 write-all-requires c κs = search needs

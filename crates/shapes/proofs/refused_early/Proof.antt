@@ -50,14 +50,16 @@ listed-requires c κs = search needs
 
 returns : tie.Need-returns
 returns c =
-    early (asked (c .before .before .before .before .before .before)) false _ _ (sym (not-true _ (c .if1 .taken)) ∙ c .before .listed .ensures) refl refl
+    let s : tie.Start = search in
+    early (asked s) false _ _ (sym (not-true _ (c .if1 .taken)) ∙ c .before .listed .ensures) refl refl
 
 misfit-requires : tie.Need-misfit-requires
 misfit-requires c κs = sym (is-listed c)
 
 returns-2 : tie.Need-returns-2
 returns-2 c =
-    early (asked (c .before .before .before .before .before .before .before .before)) true true _ (is-listed (c .before .before))
+    let s : tie.Start = search in
+    early (asked s) true true _ (is-listed (c .before .before))
     (sym (c .if2 .taken) ∙ c .before .misfit .ensures) refl
 
 short-requires : tie.Need-short-requires
@@ -65,13 +67,17 @@ short-requires c κs = (sym (is-listed (c .before .before)), ltb-false 65536 _ (
 
 returns-3 : tie.Need-returns-3
 returns-3 c =
-    early (asked (c .before .before .before .before .before .before .before .before .before .before)) true false true
-    (is-listed (c .before .before .before .before)) (fits (c .before .before)) (sym (c .if3 .taken) ∙ c .before .short .ensures)
+    let else1 : tie.Else1 = search in
+    let s : tie.Start = search in
+    early (asked s) true false true
+    (is-listed else1) (fits (c .before .before)) (sym (c .if3 .taken) ∙ c .before .short .ensures)
 
 returns-4 : tie.Need-returns-4
 returns-4 c =
-    early (asked (c .before .before .before .before .before .before .before .before .before .before)) true false false
-    (is-listed (c .before .before .before .before)) (fits (c .before .before)) (sym (c .if3 .left) ∙ c .before .short .ensures)
+    let else1 : tie.Else1 = search in
+    let s : tie.Start = search in
+    early (asked s) true false false
+    (is-listed else1) (fits (c .before .before)) (sym (c .if3 .left) ∙ c .before .short .ensures)
 
 pub refused-early-spec : {M : Type 1} → statement M
 refused-early-spec =

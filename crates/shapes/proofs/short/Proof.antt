@@ -23,20 +23,20 @@ all-starts c = c .starts-before .ensures ∙ ap (startsBefore (c .before .before
 
 returns : tie.Need-returns
 returns c =
-    let a = c .before .before .before .args in
-    sym (or-left _ _ (lt-ltb (a .starts) (startsBefore (a .shape) (m (a .shape))) (omega (arith, c .if1 .taken, all-starts (c .before)))))
+    let a : tie.Start = search in
+    sym (or-left _ _ (lt-ltb (a .args .starts) (startsBefore (a .args .shape) (m (a .args .shape))) (omega (arith, c .if1 .taken, all-starts (c .before)))))
 
 mul-result : tie.Need-mul-result
 mul-result c =
-    let a = c .before .before .before .args in
-    let f = facts (a .shape) (c .before .before .before .pre .0) in
-    omega (arith, mul-le-mul (f .few-tables) (c .before .before .before .pre .1), ap (λ (t : ℕ). t * a .n) (c .before .before .tables .ensures))
+    let a : tie.Start = search in
+    let f = facts (a .args .shape) (a .pre .0) in
+    omega (arith, mul-le-mul (f .few-tables) (a .pre .1), ap (λ (t : ℕ). t * a .args .n) (c .before .before .tables .ensures))
 
 returns-2 : tie.Need-returns-2
 returns-2 c =
-    let a = c .before .before .before .args in
-    ap (λ (t : ℕ). ltb (a .ids) (t * a .n)) (c .before .before .tables .ensures)
-    ∙ rw (le-ltb (a .starts) (startsBefore (a .shape) (m (a .shape))) (omega (arith, c .if1 .left, all-starts (c .before))))
+    let a : tie.Start = search in
+    ap (λ (t : ℕ). ltb (a .args .ids) (t * a .args .n)) (c .before .before .tables .ensures)
+    ∙ rw (le-ltb (a .args .starts) (startsBefore (a .args .shape) (m (a .args .shape))) (omega (arith, c .if1 .left, all-starts (c .before))))
 
 pub short-spec : {M : Type 1} → statement M
 short-spec = tie.close (tie.spec tables-requires starts-before-requires returns mul-result returns-2)

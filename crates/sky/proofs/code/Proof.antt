@@ -31,7 +31,9 @@ joined k e f g = cc
 star-at : (c : tie.After-star Inv-loop μ-loop) → let s = c .before .before .before .before .before .before .before .before .before .before .before .args in
     starAt (s .unit) (s .across .now) (s .up .now) (c .before .before .before .before .before .before .loop .k) ≡ c .star .result
 unfolding angleAt
-star-at c = joined _ (c .star .ensures) (c .before .before .before .in-unit .ensures) (c .before .in-unit2 .ensures)
+star-at c =
+    let at-in-unit : tie.After-in-unit Inv-loop μ-loop = search in
+    joined _ (c .star .ensures) (at-in-unit .in-unit .ensures) (c .before .in-unit2 .ensures)
 
 returns : tie.Need-returns Inv-loop μ-loop
 returns c = ⊎-elim (λ t. unequal _ _ _ (t .taken)) (λ t. too-many _ _ _ (t .0 .left) (t .1 .taken)) (c .if1 .came)
@@ -70,15 +72,18 @@ cast-code : tie.Need-cast-code Inv-loop μ-loop
 cast-code c = search needs
 
 shl-code : tie.Need-shl-code Inv-loop μ-loop
-shl-code c = star-lt _ _ _ _ (star-at (c .before .before .before) ∙ c .before .cell .given .1)
+shl-code c =
+    let at-star : tie.After-star Inv-loop μ-loop = search in
+    star-lt _ _ _ _ (star-at at-star ∙ c .before .cell .given .1)
 
 enum-known-why : tie.Need-enum-known-why Inv-loop μ-loop
 enum-known-why c = search needs
 
 returns-2 : tie.Need-returns-2 Inv-loop μ-loop
 returns-2 c =
-    let l = c .before .before .before .before .before .before .before .before .before .loop in
-    refused-at _ _ _ (l .inv .2) (l .inv .1) (omega arith) _ (star-at (c .before .before .before) ∙ c .before .why .given .1)
+    let at-star : tie.After-star Inv-loop μ-loop = search in
+    let l : tie.At-loop Inv-loop μ-loop = search in
+    refused-at _ _ _ (l .loop .inv .2) (l .loop .inv .1) (omega arith) _ (star-at at-star ∙ c .before .why .given .1)
 
 add-k : tie.Need-add-k Inv-loop μ-loop
 add-k c = search needs
@@ -88,9 +93,10 @@ loop-less c = search needs
 
 loop-again : tie.Need-loop-again Inv-loop μ-loop
 loop-again c =
-    let l = c .before .before .before .before .before .before .before .before .before .loop in
-    let e = star-at (c .before .before .before) ∙ c .before .cell .given .1 in
-    (omega arith, l .inv .1, rw (one-shl _ (star-lt _ _ _ _ e), add-one) (one-more _ _ _ (l .inv .2) _ e))
+    let at-star : tie.After-star Inv-loop μ-loop = search in
+    let l : tie.At-loop Inv-loop μ-loop = search in
+    let e = star-at at-star ∙ c .before .cell .given .1 in
+    (omega arith, l .loop .inv .1, rw (one-shl _ (star-lt _ _ _ _ e), add-one) (one-more _ _ _ (l .loop .inv .2) _ e))
 
 returns-3 : tie.Need-returns-3 Inv-loop μ-loop
 returns-3 c =

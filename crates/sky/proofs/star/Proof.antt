@@ -34,7 +34,9 @@ both-at k a b x y d e =
 
 -- the column, and then the row, in the words of the definitions
 column-at : (c : tie.After-known-told) → let s = c .before .before .before .before .args in placeOf (s .k) (s .across) ≡ At (c .before .across .given .0 .0)
-column-at c = sym (c .before .before .before .place-of .ensures) ∙ c .before .across .given .1
+column-at c =
+    let at-place-of : tie.After-place-of = search in
+    sym (at-place-of .place-of .ensures) ∙ c .before .across .given .1
 
 row-at : (c : tie.After-known-told2)
     → let s = c .before .before .before .before .before .before .before .before .args in placeOf (s .k) (s .up) ≡ At (c .before .up .given .0 .0)
@@ -67,13 +69,19 @@ returns-2 c =
     then-refused _ _ _ _ _ (column-at (f .before)) (f .place-of2 .ensures) (c .before .match2 .keys2)
 
 mul-t8 : tie.Need-mul-t8
-mul-t8 c = omega (arith, place-is _ _ _ (column-at (c .before .before .before .before)), place-is _ _ _ (row-at c))
+mul-t8 c =
+    let at-known-told : tie.After-known-told = search in
+    omega (arith, place-is _ _ _ (column-at at-known-told), place-is _ _ _ (row-at c))
 
 add-t9 : tie.Need-add-t9
-add-t9 c = omega (arith, place-is _ _ _ (column-at (c .before .before .before .before)), place-is _ _ _ (row-at c))
+add-t9 c =
+    let at-known-told : tie.After-known-told = search in
+    omega (arith, place-is _ _ _ (column-at at-known-told), place-is _ _ _ (row-at c))
 
 returns-3 : tie.Need-returns-3
-returns-3 c = both-at _ _ _ _ _ (column-at (c .before .before .before .before)) (row-at c)
+returns-3 c =
+    let at-known-told : tie.After-known-told = search in
+    both-at _ _ _ _ _ (column-at at-known-told) (row-at c)
 
 pub star-spec : {M : Type 1} → statement M
 star-spec =

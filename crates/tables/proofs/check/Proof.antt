@@ -14,7 +14,9 @@ enum-known-early : tie.Need-enum-known-early
 enum-known-early c = search needs
 
 returns : tie.Need-returns
-returns c = sym (check-answer _ _ _ (c .before .before .before .refused-early .ensures) (c .before .early .given .1))
+returns c =
+    let at-refused-early : tie.After-refused-early = search in
+    sym (check-answer _ _ _ (at-refused-early .refused-early .ensures) (c .before .early .given .1))
 
 enum-told : tie.Need-enum-told
 enum-told c = search needs
@@ -24,11 +26,13 @@ all-right-requires c κs = build-answer _ _ _ (c .before .before .refused-early 
 
 returns-2 : tie.Need-returns-2
 returns-2 c =
-    sym (check-answer _ _ _ (c .before .before .before .before .refused-early .ensures) (c .before .before .enum-told .given .1) ∙ ap (λ (b : Bool). cond b Yes No) (sym (c .before .all-right .ensures) ∙ c .if1 .taken))
+    let at-refused-early : tie.After-refused-early = search in
+    sym (check-answer _ _ _ (at-refused-early .refused-early .ensures) (c .before .before .enum-told .given .1) ∙ ap (λ (b : Bool). cond b Yes No) (sym (c .before .all-right .ensures) ∙ c .if1 .taken))
 
 returns-3 : tie.Need-returns-3
 returns-3 c =
-    sym (check-answer _ _ _ (c .before .before .before .before .refused-early .ensures) (c .before .before .enum-told .given .1) ∙ ap (λ (b : Bool). cond b Yes No) (sym (c .before .all-right .ensures) ∙ c .if1 .left))
+    let at-refused-early : tie.After-refused-early = search in
+    sym (check-answer _ _ _ (at-refused-early .refused-early .ensures) (c .before .before .enum-told .given .1) ∙ ap (λ (b : Bool). cond b Yes No) (sym (c .before .all-right .ensures) ∙ c .if1 .left))
 
 pub check-spec : {M : Type 1} → statement M
 check-spec =

@@ -26,11 +26,15 @@ number-requires : tie.Need-number-requires
 number-requires c κs = search needs
 
 returns : tie.Need-returns
-returns c = given-outs _ _ _ _ _ _ _ (c .speak .ensures) (c .before .before .before .before .before .before .before .before .before .given .given .1)
+returns c =
+    let at-given : tie.After-given = search in
+    given-outs _ _ _ _ _ _ _ (c .speak .ensures) (at-given .given .given .1)
 
 returns-2 : tie.Need-returns-2
 returns-2 c =
-    refused-outs _ _ _ _ _ _ _ _ _ _ (c .before .before .before .speak2 .ensures) (c .before .before .before .before .before .before .before .before .before .before .given2 .given .1) (c .number .ensures)
+    let at-speak2 : tie.After-speak2 = search in
+    let at-given2 : tie.After-given2 = search in
+    refused-outs _ _ _ _ _ _ _ _ _ _ (at-speak2 .speak2 .ensures) (at-given2 .given2 .given .1) (c .number .ensures)
     (c .before .before .first .ensures) (c .before .second .ensures)
 
 pub judged-spec : {M : Type 1} → statement M

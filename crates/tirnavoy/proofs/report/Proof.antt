@@ -24,11 +24,13 @@ refused-requires : tie.Need-refused-requires
 refused-requires c κs = search needs
 
 returns : tie.Need-returns
-returns c = sym (ap searchOuts (c .before .before .before .found .given .1))
+returns c =
+    let at-found : tie.After-found = search in
+    sym (ap searchOuts (at-found .found .given .1))
 
 returns-2 : tie.Need-returns-2
 returns-2 c =
-    let b = c .before .before .before .before .before .before in
+    let b : tie.After-second = search in
     c .refused .ensures
     ∙ rw (b .second .ensures, b .before .first .ensures, b .before .before .number .ensures)
     (sym (ap searchOuts (b .before .before .before .before .found2 .given .1)))

@@ -21,11 +21,13 @@ number-requires : tie.Need-number-requires
 number-requires c κs = search needs
 
 returns : tie.Need-returns
-returns c = sym (ap skyOuts (sym (c .before .before .before .code .ensures) ∙ c .before .made .given .1))
+returns c =
+    let at-code : tie.After-code = search in
+    sym (ap skyOuts (sym (at-code .code .ensures) ∙ c .before .made .given .1))
 
 returns-2 : tie.Need-returns-2
 returns-2 c =
-    let b = c .before .before .before in
+    let b : tie.After-refusal = search in
     rw (c .number .ensures, c .before .first .ensures) (sym (ap skyOuts (sym (b .before .before .code .ensures) ∙ b .refusal .given .1)))
 
 pub sky-code-spec : {M : Type 1} → statement M

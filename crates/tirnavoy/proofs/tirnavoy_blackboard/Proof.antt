@@ -18,7 +18,9 @@ number-requires : tie.Need-number-requires
 number-requires c κs = search needs
 
 returns : tie.Need-returns
-returns c = sym (ap blackboardOuts (sym (c .before .before .before .count .ensures) ∙ c .before .opened .given .1))
+returns c =
+    let at-count : tie.After-count = search in
+    sym (ap blackboardOuts (sym (at-count .count .ensures) ∙ c .before .opened .given .1))
 
 returns-2 : tie.Need-returns-2
 returns-2 c =

@@ -32,7 +32,9 @@ same-length-2 : tie.Need-same-length-2
 same-length-2 c = search needs
 
 returns : tie.Need-returns
-returns c = ended _ _ _ _ _ (c .enum-told .given .1) (c .before .before .before .before .before .before .build .ensures)
+returns c =
+    let at-build : tie.After-build = search in
+    ended _ _ _ _ _ (c .enum-told .given .1) (at-build .build .ensures)
 
 same-length-3 : tie.Need-same-length-3
 same-length-3 c = search needs

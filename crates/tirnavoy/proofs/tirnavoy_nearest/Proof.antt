@@ -20,7 +20,9 @@ same-length-3 : tie.Need-same-length-3
 same-length-3 c = search needs
 
 returns : tie.Need-returns
-returns c = reported _ _ _ _ _ _ (c .report .ensures) (c .before .before .before .before .before .before .before .before .before .before .before .before .nearest .ensures)
+returns c =
+    let at-nearest : tie.After-nearest = search in
+    reported _ _ _ _ _ _ (c .report .ensures) (at-nearest .nearest .ensures)
 
 pub tirnavoy-nearest-spec : {M : Type 1} → statement M
 tirnavoy-nearest-spec =

@@ -14,7 +14,9 @@ same-length : tie.Need-same-length
 same-length c = search needs
 
 returns : tie.Need-returns
-returns c = spoke _ _ _ _ (c .judged .ensures) (c .before .before .before .before .before .before .before .before .before .before .before .before .verdict .ensures)
+returns c =
+    let at-verdict : tie.After-verdict = search in
+    spoke _ _ _ _ (c .judged .ensures) (at-verdict .verdict .ensures)
 
 pub tirnavoy-verdict-spec : {M : Type 1} → statement M
 tirnavoy-verdict-spec =

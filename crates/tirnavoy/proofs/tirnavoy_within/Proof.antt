@@ -20,7 +20,9 @@ same-length-3 : tie.Need-same-length-3
 same-length-3 c = search needs
 
 returns : tie.Need-returns
-returns c = reported _ _ _ _ _ _ (c .report .ensures) (c .before .before .before .before .before .before .before .before .before .before .before .before .within .ensures)
+returns c =
+    let at-within : tie.After-within = search in
+    reported _ _ _ _ _ _ (c .report .ensures) (at-within .within .ensures)
 
 pub tirnavoy-within-spec : {M : Type 1} → statement M
 tirnavoy-within-spec =

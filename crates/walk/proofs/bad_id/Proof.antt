@@ -24,8 +24,8 @@ cast-entry-substring c = search needs
 
 entry-substring-requires : tie.Need-entry-substring-requires
 entry-substring-requires c κs =
-    let s = c .before .before .before .before .before .before in
-    let at-if1 = c .before .before .before .before .if1 in
+    let at-if1 : tie.Else1 = search in
+    let s : tie.Start = search in
     let f = facts _ (s .pre .0) in
     let z = s .args .z in
     let from = c .before .before .first-bit .ensures in
@@ -33,15 +33,15 @@ entry-substring-requires c κs =
     let some = f .some-bits z in
     let few = f .few-bits z in
     let inside = in-code _ f z (s .pre .1) in
-    let row = in-parts (s .args .i) (s .args .n) (s .args .shape .w) (at-if1 .left) in
+    let row = in-parts (s .args .i) (s .args .n) (s .args .shape .w) (at-if1 .if1 .left) in
     (omega arith, omega arith, f .few-words, omega arith, omega arith)
 
 returns-3 : tie.Need-returns-3
 returns-3 c =
-    let at-if1 = c .before .before .before .before .before .if1 in
-    let at-if2 = c .before .before .before .before .if2 in
-    let at-first-bit = c .before .before .before .first-bit in
-    rw (lt-leb _ _ (at-if1 .left), le-ltb _ _ (at-if2 .left), c .entry-substring .ensures, at-first-bit .ensures, c .before .before .bits .ensures)
+    let at-first-bit : tie.After-first-bit = search in
+    let at-if2 : tie.Else2 = search in
+    let at-if1 : tie.Else1 = search in
+    rw (lt-leb _ _ (at-if1 .if1 .left), le-ltb _ _ (at-if2 .if2 .left), c .entry-substring .ensures, at-first-bit .first-bit .ensures, c .before .before .bits .ensures)
 
 pub bad-id-spec : {M : Type 1} → statement M
 bad-id-spec =

@@ -12,11 +12,13 @@ abbrev Ask : tie.Start → Question
 Ask c = asks (c .args .shape) (c .args .stars .now) (c .args .codes .now) (c .args .starts .now) (c .args .ids .now) (c .args .query .now)
 
 mul-until : tie.Need-mul-until
-mul-until c = let f = facts _ (c .before .before .before .before .before .before .before .before .pre .0 .lent .known) .few-words in omega arith
+mul-until c =
+    let s : tie.Start = search in
+    let f = facts _ (s .pre .0 .lent .known) .few-words in omega arith
 
 until-requires : tie.Need-until-requires
 until-requires c κs =
-    let s = c .before .before .before .before .before .before .before .before .before .before in
+    let s : tie.Start = search in
     (s .pre .0, ((let f = facts _ (s .pre .0 .lent .known) .few-words in omega arith), s .pre .1 .1))
 
 same-length : tie.Need-same-length
@@ -27,9 +29,9 @@ same-length-2 c = search needs
 
 returns : tie.Need-returns
 returns c =
-    let s = c .before .before .before .before .before .before .before .before .before .before .before .before .before .before .before in
-    let at-until = c .before .before .before .before .until in
-    rw (Stepping.nearest-steps (Ask s) (s .args .k) (s .pre .1 .0)) at (at-until .ensures)
+    let at-until : tie.After-until = search in
+    let s : tie.Start = search in
+    rw (Stepping.nearest-steps (Ask s) (s .args .k) (s .pre .1 .0)) at (at-until .until .ensures)
 
 pub nearest-spec : {M : Type 1} → statement M
 nearest-spec =

@@ -13,14 +13,15 @@ bits-requires c κs = search needs
 
 substring-requires : tie.Need-substring-requires
 substring-requires c κs =
-    let f = facts _ (c .before .before .before .pre .0) in
-    let z = c .before .before .before .args .z in
+    let s : tie.Start = search in
+    let f = facts _ (s .pre .0) in
+    let z = s .args .z in
     let from = c .before .first-bit .ensures in
     let bits = c .bits .ensures in
     let some = f .some-bits z in
     let few = f .few-bits z in
-    let words = c .before .before .before .pre .2 in
-    let inside = in-code _ f z (c .before .before .before .pre .1) in
+    let words = s .pre .2 in
+    let inside = in-code _ f z (s .pre .1) in
     (omega arith, omega arith, omega arith)
 
 returns : tie.Need-returns

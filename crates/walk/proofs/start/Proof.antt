@@ -16,10 +16,14 @@ mul-result : tie.Need-mul-result
 mul-result c = omega (arith, c .starts-before .ensures, in-starts _ (facts _ (c .before .before .pre .0)) _ (c .before .before .pre .1))
 
 shared-slice-read-result : tie.Need-shared-slice-read-result
-shared-slice-read-result c = omega (arith, c .before .starts-before .ensures, in-starts _ (facts _ (c .before .before .before .pre .0)) _ (c .before .before .before .pre .1))
+shared-slice-read-result c =
+    let s : tie.Start = search in
+    omega (arith, c .before .starts-before .ensures, in-starts _ (facts _ (s .pre .0)) _ (s .pre .1))
 
 cast-result : tie.Need-cast-result
-cast-result c = omega (arith, c .shared-slice-known2 .given (c .before .starts-before .result + c .before .before .before .args .v))
+cast-result c =
+    let s : tie.Start = search in
+    omega (arith, c .shared-slice-known2 .given (c .before .starts-before .result + s .args .v))
 
 returns : tie.Need-returns
 returns c = rw (c .before .starts-before .ensures)

@@ -25,7 +25,7 @@ start-requires c κs = search needs
 
 loop-holds : tie.Need-loop-holds Inv-loop μ-loop
 loop-holds c =
-    let s = c .before .before .before .before .before .before .before .before in
+    let s : tie.Start Inv-loop μ-loop = search in
     (Stepping.far-none (Ask s) _ _ _ _ _ (c .start .ensures) (s .pre .1 .1), refl, refl)
 
 same-length : tie.Need-same-length Inv-loop μ-loop
@@ -35,14 +35,16 @@ same-length-2 : tie.Need-same-length-2 Inv-loop μ-loop
 same-length-2 c = search needs
 
 returns : tie.Need-returns Inv-loop μ-loop
-returns c = Stepping.walked-near _ _ _ _ _ _ (c .before .before .before .before .loop .inv .0) (c .before .before .if1 .taken) (c .if2 .taken)
+returns c =
+    let at-loop : tie.At-loop Inv-loop μ-loop = search in
+    Stepping.walked-near _ _ _ _ _ _ (at-loop .loop .inv .0) (c .before .before .if1 .taken) (c .if2 .taken)
 
 step-requires : tie.Need-step-requires Inv-loop μ-loop
 step-requires c κs =
-    let s = c .before .before .before .before .before .before .before .before .before .before .before .before .before .before .before in
-    let at-loop = c .before .before .before .before .before .before .loop in
-    let at-if1 = c .before .before .before .before .if1 in
-    (s .pre .0, ((let l = at-if1 .taken in let t = s .pre .1 .0 in omega arith), at-loop .inv .0 .going))
+    let at-if1 : tie.Then1 Inv-loop μ-loop = search in
+    let at-loop : tie.At-loop Inv-loop μ-loop = search in
+    let s : tie.Start Inv-loop μ-loop = search in
+    (s .pre .0, ((let l = at-if1 .if1 .taken in let t = s .pre .1 .0 in omega arith), at-loop .loop .inv .0 .going))
 
 enum-told : tie.Need-enum-told Inv-loop μ-loop
 enum-told c = search needs
@@ -55,26 +57,31 @@ same-length-4 c = search needs
 
 returns-2 : tie.Need-returns-2 Inv-loop μ-loop
 returns-2 c =
-    let at-loop = c .before .before .before .before .before .before .before .before .before .before .before .before .before .loop in
-    let at-if1 = c .before .before .before .before .before .before .before .before .before .before .before .if1 in
-    let at-if2 = c .before .before .before .before .before .before .before .before .before .if2 in
-    let at-step = c .before .before .before .before .before .before .step in
-    Stepping.walked-bad _ _ _ _ _ _ (at-loop .inv .0) (at-if1 .taken) (at-if2 .left) _ _ _ (at-step .ensures) _ (c .enum-told .given .1)
+    let at-step : tie.After-step Inv-loop μ-loop = search in
+    let at-if2 : tie.Else2 Inv-loop μ-loop = search in
+    let at-if1 : tie.Then1 Inv-loop μ-loop = search in
+    let at-loop : tie.At-loop Inv-loop μ-loop = search in
+    Stepping.walked-bad _ _ _ _ _ _ (at-loop .loop .inv .0) (at-if1 .if1 .taken) (at-if2 .if2 .left) _ _ _ (at-step .step .ensures) _ (c .enum-told .given .1)
 
 enum-told-2 : tie.Need-enum-told-2 Inv-loop μ-loop
 enum-told-2 c = search needs
 
 loop-less : tie.Need-loop-less Inv-loop μ-loop
 loop-less c =
-    let at-if1 = c .before .before .before .before .before .before .before .before .before .before .before .if1 in
-    let at-step = c .before .before .before .before .before .before .step in
-    let a = at-step .ensures .at (c .enum-told2 .given .1) in let l = at-if1 .taken in omega arith
+    let at-step : tie.After-step Inv-loop μ-loop = search in
+    let at-if1 : tie.Then1 Inv-loop μ-loop = search in
+    let a = at-step .step .ensures .at (c .enum-told2 .given .1) in let l = at-if1 .if1 .taken in omega arith
 
 loop-again : tie.Need-loop-again Inv-loop μ-loop
-loop-again c =
-    let far = c .before .before .before .before .before .before .before .before .before .before .before .before .before .loop .inv .0 in
-    let stepped = c .before .before .before .before .before .before .step .ensures in
-    (Stepping.far-more _ _ _ _ _ _ far (c .before .before .before .before .before .before .before .before .before .before .before .if1 .taken) (c .before .before .before .before .before .before .before .before .before .if2 .left) _ _ _ stepped (c .enum-told2 .given .1), search needs, search needs)
+loop-again c = (
+  (let at-step : tie.After-step Inv-loop μ-loop = search in
+      let at-if2 : tie.Else2 Inv-loop μ-loop = search in
+      let at-if1 : tie.Then1 Inv-loop μ-loop = search in
+      let at-loop : tie.At-loop Inv-loop μ-loop = search in
+      Stepping.far-more _ _ _ _ _ _ (at-loop .loop .inv .0) (at-if1 .if1 .taken) (at-if2 .if2 .left) _ _ _ (at-step .step .ensures) (c .enum-told2 .given .1)),
+  search needs,
+  search needs,
+)
 
 same-length-5 : tie.Need-same-length-5 Inv-loop μ-loop
 same-length-5 c = search needs

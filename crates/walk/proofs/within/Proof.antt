@@ -19,12 +19,12 @@ start-requires c κs = search needs
 returns : tie.Need-returns
 unfolding withinSteps
 returns c =
-    let s = c .before .before .before .before .before .before .before .before .before in
+    let s : tie.Start = search in
     rw (eq-eqb _ _ (c .before .if1 .taken)) (Stepping.walked-none (Ask s) _ _ _ (c .start .ensures) (s .pre .1 .1))
 
 until-requires : tie.Need-until-requires
 until-requires c κs =
-    let s = c .before .before .before .before .before .before .before .before .before .before in
+    let s : tie.Start = search in
     (s .pre .0, ((let f = facts _ (s .pre .0 .lent .known) .few-words in let r = s .pre .1 .0 in omega arith), s .pre .1 .1))
 
 same-length : tie.Need-same-length
@@ -36,10 +36,10 @@ same-length-2 c = search needs
 returns-2 : tie.Need-returns-2
 unfolding withinSteps
 returns-2 c =
-    let s = c .before .before .before .before .before .before .before .before .before .before .before .before .before .before .before in
-    let at-if1 = c .before .before .before .before .before .before .before .if1 in
-    let at-until = c .before .before .before .before .until in
-    rw (ne-eqb _ _ (at-if1 .left)) (rw (Stepping.all-steps (Ask s) 65537 (s .args .r) (let f = s .pre .0 .lent .few in omega arith)) at (at-until .ensures))
+    let at-until : tie.After-until = search in
+    let at-if1 : tie.Else1 = search in
+    let s : tie.Start = search in
+    rw (ne-eqb _ _ (at-if1 .if1 .left)) (rw (Stepping.all-steps (Ask s) 65537 (s .args .r) (let f = s .pre .0 .lent .few in omega arith)) at (at-until .until .ensures))
 
 pub within-spec : {M : Type 1} → statement M
 within-spec =

@@ -32,7 +32,9 @@ binomial-requires : tie.Need-binomial-requires Inv-loop μ-loop
 binomial-requires c κs = (c .before .before .pre .0, omega arith)
 
 add-sum : tie.Need-add-sum Inv-loop μ-loop
-add-sum c = omega (arith, small _ _ _ _ (c .before .before .before .pre .0) (c .before .before .loop .inv .1) (c .binomial .ensures))
+add-sum c =
+    let s : tie.Start Inv-loop μ-loop = search in
+    omega (arith, small _ _ _ _ (s .pre .0) (c .before .before .loop .inv .1) (c .binomial .ensures))
 
 add-i : tie.Need-add-i Inv-loop μ-loop
 add-i c = omega arith

@@ -12,24 +12,28 @@ use Rattle.walk.proofs.Walk.open.Tie as tie
 abbrev Ask : tie.Start → Question
 Ask c = asks (c .args .shape) (c .args .stars .now) (c .args .codes .now) (c .args .starts .now) (c .args .ids .now) (c .args .query .now)
 
+-- the start, seen from behind a later call
+abbrev start-of : tie.After-bad-bucket → tie.Start
+start-of c = c .before .before .before .before .before .before .before .before .before .before
+
 bad-bucket-requires : tie.Need-bad-bucket-requires
 bad-bucket-requires c κs =
-    let s = c .before .before .before .before .before .before .before .before .before in
+    let s : tie.Start = search in
     (s .pre .0 .lent, (s .pre .1 .0 .0, s .pre .1 .0 .1))
 
 cast-table : tie.Need-cast-table
 cast-table c =
-    let s = c .before .before .before .before .before .before .before .before .before .before .before in
+    let s : tie.Start = search in
     let f = facts _ (s .pre .0 .lent .known) .few-tables in let z = s .pre .1 .0 .0 in omega arith
 
 cast-bucket : tie.Need-cast-bucket
 cast-bucket c =
-    let s = c .before .before .before .before .before .before .before .before .before .before .before in
+    let s : tie.Start = search in
     let v = s .pre .1 .0 .1 in omega (arith, few-buckets _ (facts _ (s .pre .0 .lent .known)) (s .args .z))
 
 returns : tie.Need-returns
 returns c =
-    let s = c .before .before .before .before .before .before .before .before .before .before .before in
+    let s : tie.Start = search in
     Opening.opening-refused (Ask s) _ _ _ _ _ _ _ (sym (c .before .bad-bucket .ensures) ∙ c .if1 .taken) refl
 
 add-t20 : tie.Need-add-t20
@@ -37,11 +41,11 @@ add-t20 c = search needs
 
 test-all-requires : tie.Need-test-all-requires
 test-all-requires c κs =
-    let s = c .before .before .before .before .before .before .before .before .before .before .before .before .before .before in
-    let at-bad-bucket = c .before .before .before .before .bad-bucket in
-    let at-if1 = c .before .before .before .if1 in
+    let at-if1 : tie.Else1 = search in
+    let at-bad-bucket : tie.After-bad-bucket = search in
+    let s : tie.Start = search in
     let n = s .pre .1 .1 in
-    (s .pre .0, ((s .pre .1 .0 .0, s .pre .1 .0 .1), (sym (at-bad-bucket .ensures) ∙ at-if1 .left, record { long = n .long; tally-is = n .tally-is; near-is = n .near-is; tested-is = n .tested-is })))
+    (s .pre .0, ((s .pre .1 .0 .0, s .pre .1 .0 .1), (sym (at-bad-bucket .bad-bucket .ensures) ∙ at-if1 .if1 .left, record { long = n .long; tally-is = n .tally-is; near-is = n .near-is; tested-is = n .tested-is })))
 
 same-length : tie.Need-same-length
 same-length c = search needs
@@ -51,11 +55,11 @@ same-length-2 c = search needs
 
 returns-2 : tie.Need-returns-2
 returns-2 c =
-    let s = c .before .before .before .before .before .before .before .before .before .before .before .before .before .before .before .before .before .before .before in
-    let at-bad-bucket = c .before .before .before .before .before .before .before .before .before .bad-bucket in
-    let at-if1 = c .before .before .before .before .before .before .before .before .if1 in
-    let at-test-all = c .before .before .before .before .test-all in
-    Opening.opening-one (Ask s) _ _ _ _ _ _ _ _ (sym (at-bad-bucket .ensures) ∙ at-if1 .left) refl refl refl (at-test-all .ensures)
+    let at-test-all : tie.After-test-all = search in
+    let at-if1 : tie.Else1 = search in
+    let at-bad-bucket : tie.After-bad-bucket = search in
+    let s = start-of at-bad-bucket in
+    Opening.opening-one (Ask s) _ _ _ _ _ _ _ _ (sym (at-bad-bucket .bad-bucket .ensures) ∙ at-if1 .if1 .left) refl refl refl (at-test-all .test-all .ensures)
 
 pub open-spec : {M : Type 1} → statement M
 open-spec =

@@ -48,9 +48,13 @@ abbrev μ-loop : tie.MeasureT-loop
 abbrev Ask : tie.Start Inv-loop μ-loop → Question
 Ask c = asks (c .args .shape) (c .args .stars .now) (c .args .codes .now) (c .args .starts .now) (c .args .ids .now) (c .args .query .now)
 
+-- the start, seen from behind a later call
+abbrev start-of : tie.After-query-substring Inv-loop μ-loop → tie.Start Inv-loop μ-loop
+start-of c = c .before .before .before .before .before .before .before .before
+
 query-substring-requires : tie.Need-query-substring-requires Inv-loop μ-loop
 query-substring-requires c κs =
-    let s = c .before .before .before .before .before .before .before in
+    let s : tie.Start Inv-loop μ-loop = search in
     (s .pre .0 .lent .known, s .pre .1 .0 .0, s .pre .0 .query)
 
 buckets-requires : tie.Need-buckets-requires Inv-loop μ-loop
@@ -58,7 +62,7 @@ buckets-requires c κs = search needs
 
 loop-holds : tie.Need-loop-holds Inv-loop μ-loop
 loop-holds c =
-    let s = c .before .before .before .before .before .before .before .before .before in
+    let s : tie.Start Inv-loop μ-loop = search in
     record {
       upto = omega arith;
       clear = s .pre .1 .0 .1;
@@ -69,16 +73,16 @@ loop-holds c =
 
 open-mask-requires : tie.Need-open-mask-requires Inv-loop μ-loop
 open-mask-requires c κs =
-    let s = c .before .before .before .before .before .before .before .before .before .before .before .before .before in
-    let at-query-substring = c .before .before .before .before .before .query-substring in
-    let at-buckets = c .before .before .before .before .buckets in
-    let at-loop = c .before .before .before .loop in
-    let i = at-loop .inv in
+    let at-loop : tie.At-loop Inv-loop μ-loop = search in
+    let at-buckets : tie.After-buckets Inv-loop μ-loop = search in
+    let at-query-substring : tie.After-query-substring Inv-loop μ-loop = search in
+    let s : tie.Start Inv-loop μ-loop = search in
+    let i = at-loop .loop .inv in
     let b = s .pre .1 .0 .2 in
-    let e = at-buckets .ensures in (
+    let e = at-buckets .buckets .ensures in (
       s .pre .0,
       (
-        (s .pre .1 .0 .0, rw (at-query-substring .ensures) (substring-lt _ _ _), omega arith, i .clear, omega (arith, few _ _ _ _ _ _ _ _ _ _ _ _ i, few-buckets _ (facts _ (s .pre .0 .lent .known)) (s .args .z))),
+        (s .pre .1 .0 .0, rw (at-query-substring .query-substring .ensures) (substring-lt _ _ _), omega arith, i .clear, omega (arith, few _ _ _ _ _ _ _ _ _ _ _ _ i, few-buckets _ (facts _ (s .pre .0 .lent .known)) (s .args .z))),
         i .opened .clear (i .clear) .counted,
       ),
     )
@@ -94,15 +98,15 @@ same-length-2 c = search needs
 
 returns : tie.Need-returns Inv-loop μ-loop
 returns c =
-    let s = c .before .before .before .before .before .before .before .before .before .before .before .before .before .before .before .before .before .before .before .before in
-    let at-query-substring = c .before .before .before .before .before .before .before .before .before .before .before .before .query-substring in
-    let at-buckets = c .before .before .before .before .before .before .before .before .before .before .before .buckets in
-    let at-loop = c .before .before .before .before .before .before .before .before .before .before .loop in
-    let at-loop-test = c .before .before .before .before .before .before .before .before .before .loop-test in
-    let at-open-mask = c .before .before .before .before .before .before .open-mask in
-    rw (← at-query-substring .ensures)
-    (opening.around-bad (s .args .z) (s .args .r) (at-query-substring .result) (Ask s) _ _ _ _ _ _ _ _ (let e = at-buckets .ensures in omega (arith, at-loop-test .taken))
-    (next _ _ _ _ _ _ _ _ _ _ _ _ _ _ _ (at-loop .inv) (at-open-mask .ensures)) (c .enum-told .given .1))
+    let at-open-mask : tie.After-open-mask Inv-loop μ-loop = search in
+    let at-loop-test : tie.In-loop Inv-loop μ-loop = search in
+    let at-loop : tie.At-loop Inv-loop μ-loop = search in
+    let at-buckets : tie.After-buckets Inv-loop μ-loop = search in
+    let at-query-substring : tie.After-query-substring Inv-loop μ-loop = search in
+    let s = start-of at-query-substring in
+    rw (← at-query-substring .query-substring .ensures)
+    (opening.around-bad (s .args .z) (s .args .r) (at-query-substring .query-substring .result) (Ask s) _ _ _ _ _ _ _ _ (let e = at-buckets .buckets .ensures in omega (arith, at-loop-test .loop-test .taken))
+    (next _ _ _ _ _ _ _ _ _ _ _ _ _ _ _ (at-loop .loop .inv) (at-open-mask .open-mask .ensures)) (c .enum-told .given .1))
 
 enum-told-2 : tie.Need-enum-told-2 Inv-loop μ-loop
 enum-told-2 c = search needs
@@ -115,11 +119,13 @@ loop-less c = search needs
 
 loop-again : tie.Need-loop-again Inv-loop μ-loop
 loop-again c =
-    let i = c .before .before .before .before .before .before .before .before .before .before .loop .inv in
+    let at-open-mask : tie.After-open-mask Inv-loop μ-loop = search in
+    let at-loop : tie.At-loop Inv-loop μ-loop = search in
+    let i = at-loop .loop .inv in
     record {
       upto = omega arith;
       clear = c .enum-told2 .given .1;
-      opened = next _ _ _ _ _ _ _ _ _ _ _ _ _ _ _ i (c .before .before .before .before .before .before .open-mask .ensures);
+      opened = next _ _ _ _ _ _ _ _ _ _ _ _ _ _ _ i (at-open-mask .open-mask .ensures);
       same-marks = search needs;
       same-tally = search needs;
     }
@@ -132,11 +138,11 @@ same-length-4 c = c .before .loop .inv .same-tally
 
 returns-2 : tie.Need-returns-2 Inv-loop μ-loop
 returns-2 c =
-    let s = c .before .before .before .before .before .before .before .before .before .before .before in
-    let at-query-substring = c .before .before .before .query-substring in
+    let at-query-substring : tie.After-query-substring Inv-loop μ-loop = search in
+    let s : tie.Start Inv-loop μ-loop = search in
     let i = c .before .loop .inv in
     let all : c .before .loop .mask ≡ size (s .args .shape) (s .args .z) = let e = c .before .before .buckets .ensures in let l = i .upto in omega arith in
-    rw (← at-query-substring .ensures, ← all) (i .opened)
+    rw (← at-query-substring .query-substring .ensures, ← all) (i .opened)
 
 pub open-all-spec : {M : Type 1} → statement M
 open-all-spec =

@@ -19,12 +19,12 @@ inside c = xor-lt (len (c .args .shape) (c .args .z)) _ _ (c .pre .1 .0 .1) (c .
 
 returns : tie.Need-returns
 returns c =
-    let s = c .before .before .before .before .before .before .before .before in
+    let s : tie.Start = search in
     rw (ne-eqb _ _ (c .if1 .taken)) (Opening.opening-none (Ask s) _ _ _ (s .pre .1 .0 .3) (s .pre .1 .1))
 
 open-requires : tie.Need-open-requires
 open-requires c κs =
-    let s = c .before .before .before .before .before .before .before .before .before .before in
+    let s : tie.Start = search in
     (s .pre .0, ((s .pre .1 .0 .0, inside s, s .pre .1 .0 .3, s .pre .1 .0 .4), s .pre .1 .1))
 
 same-length : tie.Need-same-length
@@ -34,7 +34,10 @@ same-length-2 : tie.Need-same-length-2
 same-length-2 c = search needs
 
 returns-2 : tie.Need-returns-2
-returns-2 c = rw (eq-eqb _ _ (c .before .before .before .before .before .before .before .if1 .left)) (c .before .before .before .before .«open» .ensures)
+returns-2 c =
+    let at-open : tie.After-open = search in
+    let else1 : tie.Else1 = search in
+    rw (eq-eqb _ _ (else1 .if1 .left)) (at-open .«open» .ensures)
 
 pub open-mask-spec : {M : Type 1} → statement M
 open-mask-spec =

@@ -59,14 +59,18 @@ cast-step : tie.Need-cast-step
 cast-step c = search needs
 
 rem-a : tie.Need-rem-a
-rem-a c = rw (c .before .tables .ensures) (at (c .before .before .before .before .before .before .before .before .before) .some)
+rem-a c =
+    let s : tie.Start = search in
+    rw (c .before .tables .ensures) (at s .some)
 
 div-r : tie.Need-div-r
-div-r c = rw (c .before .tables .ensures) (at (c .before .before .before .before .before .before .before .before .before) .some)
+div-r c =
+    let s : tie.Start = search in
+    rw (c .before .tables .ensures) (at s .some)
 
 cast-r : tie.Need-cast-r
 cast-r c =
-    let s = c .before .before .before .before .before .before .before .before .before in
+    let s : tie.Start = search in
     let l = s .pre .1 .0 in rw (c .before .tables .ensures) (omega (arith, at s .radius))
 
 add-t18 : tie.Need-add-t18
@@ -76,19 +80,23 @@ mul-t17 : tie.Need-mul-t17
 mul-t17 c = search needs
 
 slice-read-t20 : tie.Need-slice-read-t20
-slice-read-t20 c = omega (arith, at (c .before .before .before .before .before .before .before .before .before .before .before .before .before) .long)
+slice-read-t20 c =
+    let s : tie.Start = search in
+    omega (arith, at s .long)
 
 add-t21 : tie.Need-add-t21
-add-t21 c = omega (arith, at (c .before .before .before .before .before .before .before .before .before .before .before .before .before .before) .few)
+add-t21 c =
+    let s : tie.Start = search in
+    omega (arith, at s .few)
 
 open-all-requires : tie.Need-open-all-requires
 open-all-requires c κs =
-    let s = c .before .before .before .before .before .before .before .before .before .before .before .before .before .before .before .before in
-    let at-tables = c .before .before .before .before .before .before .before .before .tables in
+    let at-tables : tie.After-tables = search in
+    let s : tie.Start = search in
     let r = at s in (
       s .pre .0,
       (
-        (rw (at-tables .ensures) (r .table), refl, r .buckets),
+        (rw (at-tables .tables .ensures) (r .table), refl, r .buckets),
         Stepping.counted-reach (distanceOf (Ask s)) _ (s .args .self) _ _ _ (s .pre .1 .0) refl refl refl (s .pre .1 .1 .counted),
       ),
     )
@@ -102,10 +110,10 @@ same-length-2 c = search needs
 returns : tie.Need-returns
 unfolding opens
 returns c =
-    let s = c .before .before .before .before .before .before .before .before .before .before .before .before .before .before .before .before .before .before .before .before .before in
-    let at-tables = c .before .before .before .before .before .before .before .before .before .before .before .before .before .tables in
-    let at-open-all = c .before .before .before .before .open-all in
-    Stepping.stepped (Ask s) (s .args .self) _ _ _ _ _ _ refl refl (s .pre .1 .1) (rw (at-tables .ensures) at (at-open-all .ensures))
+    let at-open-all : tie.After-open-all = search in
+    let at-tables : tie.After-tables = search in
+    let s : tie.Start = search in
+    Stepping.stepped (Ask s) (s .args .self) _ _ _ _ _ _ refl refl (s .pre .1 .1) (rw (at-tables .tables .ensures) at (at-open-all .open-all .ensures))
 
 pub step-spec : {M : Type 1} → statement M
 step-spec =

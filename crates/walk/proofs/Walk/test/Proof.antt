@@ -28,12 +28,13 @@ same-length c = search needs
 
 returns : tie.Need-returns
 returns c =
+    let s : tie.Start = search in
     record {
       at = refl;
       opened = refl;
       met = refl;
       marked = Testing.marked-before _ _ (sym (c .before .marked .ensures) ∙ c .if1 .taken);
-      counted = c .before .before .before .before .before .before .before .pre .1 .1;
+      counted = s .pre .1 .1;
     }
 
 mark-requires : tie.Need-mark-requires
@@ -52,31 +53,37 @@ mul-tally : tie.Need-mul-tally
 mul-tally c = search needs
 
 slice-read-tally : tie.Need-slice-read-tally
-slice-read-tally c = few (c .before .before .before .before .before .before .before .before .before .before .before .before .before .before) _ (c .before .distance .ensures) .in-tally
+slice-read-tally c =
+    let s : tie.Start = search in
+    few s _ (c .before .distance .ensures) .in-tally
 
 add-tally : tie.Need-add-tally
-add-tally c = omega (arith, few (c .before .before .before .before .before .before .before .before .before .before .before .before .before .before) _ (c .before .distance .ensures) .at-distance)
+add-tally c =
+    let s : tie.Start = search in
+    omega (arith, few s _ (c .before .distance .ensures) .at-distance)
 
 mul-tally-2 : tie.Need-mul-tally-2
 mul-tally-2 c = search needs
 
 slice-write-tally : tie.Need-slice-write-tally
-slice-write-tally c = few (c .before .before .before .before .before .before .before .before .before .before .before .before .before .before) _ (c .before .distance .ensures) .in-tally
+slice-write-tally c =
+    let s : tie.Start = search in
+    few s _ (c .before .distance .ensures) .in-tally
 
 add-t21 : tie.Need-add-t21
 add-t21 c =
-    let s = c .before .before .before .before .before .before .before .before .before .before .before .before .before .before .before .before .before in
-    let at-distance = c .before .before .before .before .distance in
-    omega (arith, few s _ (at-distance .ensures) .tested)
+    let at-distance : tie.After-distance = search in
+    let s : tie.Start = search in
+    omega (arith, few s _ (at-distance .distance .ensures) .tested)
 
 cast-t22 : tie.Need-cast-t22
 cast-t22 c = search needs
 
 add-t27 : tie.Need-add-t27
 add-t27 c =
-    let s = c .before .before .before .before .before .before .before .before .before .before .before .before .before .before .before .before .before .before .before in
-    let at-distance = c .before .before .before .before .before .before .distance in
-    omega (arith, few s _ (at-distance .ensures) .near (ltb (at-distance .result) (s .args .self .at)))
+    let at-distance : tie.After-distance = search in
+    let s : tie.Start = search in
+    omega (arith, few s _ (at-distance .distance .ensures) .near (ltb (at-distance .distance .result) (s .args .self .at)))
 
 same-length-2 : tie.Need-same-length-2
 same-length-2 c = search needs
@@ -86,12 +93,12 @@ same-length-3 c = search needs
 
 returns-2 : tie.Need-returns-2
 returns-2 c =
-    let s = c .before .before .before .before .before .before .before .before .before .before .before .before .before .before .before .before .before .before .before in
-    let at-marked = c .before .before .before .before .before .before .before .before .before .before .before .before .before .marked in
-    let at-if1 = c .before .before .before .before .before .before .before .before .before .before .before .before .if1 in
-    let at-mark = c .before .before .before .before .before .before .before .before .before .before .mark in
-    let at-distance = c .before .before .before .before .before .before .distance in
-    Testing.tests-new (D s) _ _ _ _ (s .pre .1 .1) _ _ _ (s .pre .1 .0 .0) (sym (at-marked .ensures) ∙ at-if1 .left) (close s) (at-distance .ensures) (at-mark .ensures)
+    let at-distance : tie.After-distance = search in
+    let at-mark : tie.After-mark = search in
+    let at-if1 : tie.Else1 = search in
+    let at-marked : tie.After-marked = search in
+    let s : tie.Start = search in
+    Testing.tests-new (D s) _ _ _ _ (s .pre .1 .1) _ _ _ (s .pre .1 .0 .0) (sym (at-marked .marked .ensures) ∙ at-if1 .if1 .left) (close s) (at-distance .distance .ensures) (at-mark .mark .ensures)
 
 pub test-spec : {M : Type 1} → statement M
 test-spec =

@@ -58,28 +58,34 @@ room c = in-ids (X c) (c .pre .0 .lent) (c .args .z) (c .pre .1 .0 .0)
 sound : (c : tie.Start Inv-loop μ-loop) → Good (X c) (c .args .z) (c .args .v)
 sound c = good (X c) (c .args .z) (c .args .v) (c .pre .1 .1 .0)
 
+-- the start, seen from behind a later call
+abbrev start-of : tie.After-start2 Inv-loop μ-loop → tie.Start Inv-loop μ-loop
+start-of c = c .before .before .before .before .before .before .before .before .before
+
 start-requires : tie.Need-start-requires Inv-loop μ-loop
 start-requires c κs =
-    let s = c .before .before .before .before .before .before .before in
+    let s : tie.Start Inv-loop μ-loop = search in
     ((s .pre .0 .lent .known, s .pre .1 .0 .0, omega arith, s .pre .0 .lent .starts))
 
 add-start : tie.Need-add-start Inv-loop μ-loop
 add-start c =
-    let s = c .before .before .before .before .before .before .before .before in
+    let s : tie.Start Inv-loop μ-loop = search in
     omega (arith, few-buckets _ (facts _ (s .pre .0 .lent .known)) (s .args .z))
 
 start-requires-2 : tie.Need-start-requires-2 Inv-loop μ-loop
 start-requires-2 c κs =
-    let s = c .before .before .before .before .before .before .before .before in
+    let s : tie.Start Inv-loop μ-loop = search in
     ((s .pre .0 .lent .known, s .pre .1 .0 .0, omega arith, s .pre .0 .lent .starts))
 
 mul-before : tie.Need-mul-before Inv-loop μ-loop
-mul-before c = omega (arith, room (c .before .before .before .before .before .before .before .before .before))
+mul-before c =
+    let s : tie.Start Inv-loop μ-loop = search in
+    omega (arith, room s)
 
 loop-holds : tie.Need-loop-holds Inv-loop μ-loop
 unfolding start
 loop-holds c =
-    let s = c .before .before .before .before .before .before .before .before .before in
+    let s : tie.Start Inv-loop μ-loop = search in
     rw (c .before .start .ensures)
     (record {
       from = omega arith;
@@ -90,40 +96,40 @@ loop-holds c =
 add-i : tie.Need-add-i Inv-loop μ-loop
 unfolding start
 add-i c =
-    let s = c .before .before .before .before .before .before .before .before .before .before .before in
+    let s : tie.Start Inv-loop μ-loop = search in
     let e = c .before .before .start2 .ensures in omega (arith, room s, sound s .inside)
 
 mul-i : tie.Need-mul-i Inv-loop μ-loop
 unfolding start
 mul-i c =
-    let s = c .before .before .before .before .before .before .before .before .before .before .before in
+    let s : tie.Start Inv-loop μ-loop = search in
     let e = c .before .before .start2 .ensures in omega (arith, room s, sound s .inside)
 
 shared-slice-read-i : tie.Need-shared-slice-read-i Inv-loop μ-loop
 unfolding start
 shared-slice-read-i c =
-    let s = c .before .before .before .before .before .before .before .before .before .before .before .before in
-    let at-start2 = c .before .before .before .start2 in
-    let e = at-start2 .ensures in omega (arith, room s, sound s .inside)
+    let at-start2 : tie.After-start2 Inv-loop μ-loop = search in
+    let s : tie.Start Inv-loop μ-loop = search in
+    let e = at-start2 .start2 .ensures in omega (arith, room s, sound s .inside)
 
 cast-i : tie.Need-cast-i Inv-loop μ-loop
 cast-i c =
-    let s = c .before .before .before .before .before .before .before .before .before .before .before .before in
+    let s : tie.Start Inv-loop μ-loop = search in
     omega (arith, c .shared-slice-known6 .given (s .args .z * length (s .args .stars .now) + c .before .before .loop .p))
 
 test-requires : tie.Need-test-requires Inv-loop μ-loop
 unfolding start idAt
 test-requires c κs =
-    let s = c .before .before .before .before .before .before .before .before .before .before .before .before .before .before in
-    let at-start2 = c .before .before .before .before .before .start2 in
-    let at-loop = c .before .before .before .before .loop in
+    let at-loop : tie.At-loop Inv-loop μ-loop = search in
+    let at-start2 : tie.After-start2 Inv-loop μ-loop = search in
+    let s : tie.Start Inv-loop μ-loop = search in
     let x = X s in
     let f = facts _ (s .pre .0 .lent .known) in
-    let inv = at-loop .inv in
-    let entry = sound s .entry (at-loop .p) (inv .from) (let e = at-start2 .ensures in omega arith) in
+    let inv = at-loop .loop .inv in
+    let entry = sound s .entry (at-loop .loop .p) (inv .from) (let e = at-start2 .start2 .ensures in omega arith) in
     let long = inv .tests .counted .long in
     let many = s .pre .0 .lent .few in
-    let row = in-parts (idAt x (s .args .z) (at-loop .p)) (n x) (s .args .shape .w) entry in (
+    let row = in-parts (idAt x (s .args .z) (at-loop .loop .p)) (n x) (s .args .shape .w) entry in (
       (f .few-words, (let l = s .pre .0 .lent .codes in omega arith), s .pre .0 .query),
       (
         (omega arith, omega arith),
@@ -140,31 +146,33 @@ loop-less c = search needs
 loop-again : tie.Need-loop-again Inv-loop μ-loop
 unfolding start idAt
 loop-again c =
-    let s = c .before .before .before .before .before .before .before .before .before .before .before .before .before .before .before .before .before .before .before in
-    let at-start2 = c .before .before .before .before .before .before .before .before .before .before .start2 in
-    let at-loop = c .before .before .before .before .before .before .before .before .before .loop in
-    let at-loop-test = c .before .before .before .before .before .before .before .before .loop-test in
-    let at-test = c .before .before .before .before .test in
-    let inv = at-loop .inv in
+    let at-test : tie.After-test Inv-loop μ-loop = search in
+    let at-loop-test : tie.In-loop Inv-loop μ-loop = search in
+    let at-loop : tie.At-loop Inv-loop μ-loop = search in
+    let at-start2 : tie.After-start2 Inv-loop μ-loop = search in
+    let s = start-of at-start2 in
+    let inv = at-loop .loop .inv in
     record {
       from = let l = inv .from in omega arith;
-      to = let e = at-start2 .ensures in omega (arith, at-loop-test .taken);
+      to = let e = at-start2 .start2 .ensures in omega (arith, at-loop-test .loop-test .taken);
       tests =
-          Testing.tests-more (D s) _ _ _ _ _ _ _ _ _ _ _ _ (one-more (X s) (s .args .z) (s .args .v) (at-loop .p) (inv .from)) (inv .tests) (at-test .ensures);
+          Testing.tests-more (D s) _ _ _ _ _ _ _ _ _ _ _ _ (one-more (X s) (s .args .z) (s .args .v) (at-loop .loop .p) (inv .from)) (inv .tests) (at-test .test .ensures);
     }
 
 same-length : tie.Need-same-length Inv-loop μ-loop
-same-length c = c .before .loop .inv .tests .counted .long ∙ sym (c .before .before .before .before .before .before .before .before .before .before .before .pre .1 .1 .1 .long)
+same-length c =
+    let s : tie.Start Inv-loop μ-loop = search in
+    c .before .loop .inv .tests .counted .long ∙ sym (s .pre .1 .1 .1 .long)
 
 same-length-2 : tie.Need-same-length-2 Inv-loop μ-loop
 same-length-2 c =
-    let s = c .before .before .before .before .before .before .before .before .before .before .before in
+    let s : tie.Start Inv-loop μ-loop = search in
     Testing.tally-long _ _ _ _ _ (c .before .loop .inv .tests .counted) ∙ sym (Testing.tally-long _ _ _ _ _ (s .pre .1 .1 .1))
 
 returns : tie.Need-returns Inv-loop μ-loop
 unfolding start
 returns c =
-    let s = c .before .before .before .before .before .before .before .before .before .before .before in
+    let s : tie.Start Inv-loop μ-loop = search in
     let inv = c .before .loop .inv in
     let end : c .before .loop .p ≡ start (X s) (s .args .z) (s .args .v + 1) = let e = c .before .before .start2 .ensures in let l = inv .to in omega arith in
     rw end at (inv .tests)
