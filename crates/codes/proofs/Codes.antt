@@ -3,7 +3,7 @@ use mathlib.Core.Path.{_≡_, sym, ap, ap₂, _∙_, subst}
 use mathlib.Core.Bool.{true}
 use mathlib.Core.List.{List}
 use Prim.Native.Nat.{ℕ, _+_, _*_, _/_, _%_, _^_, _≤_, _<_}
-use native.Mathlib.Nat.{mod-lt, zero-lt-suc, mod-eq-of-lt}
+use native.Mathlib.Nat.{mod-eq-of-lt}
 use native.Mathlib.Omega.{arith}
 use lib.ListN.{getD, drop}
 use lib.Pow.{shr-mod}
@@ -12,21 +12,14 @@ use lib.Bits.{differ, bitXor}
 use lib.Count.{ones}
 use Rattle.theory.specs.Lists.{sum}
 use Rattle.theory.proofs.Sums.{sum-cong, sum-split, sum-cuts, sum-zero, sum-le}
-use Rattle.theory.proofs.Numbers.{number, number-cong, number-lt, number-append, number-digits, number-xor, differ-lt, differ-self, differ-sym}
+use Rattle.theory.proofs.Numbers.{number, number-cong, number-append, number-digits, number-xor, differ-lt, differ-self, differ-sym}
 use Rattle.scope.specs.declared.Shape.{Shape}
 use Rattle.scope.specs.Shape.{q, listed, m, firstBit, len}
 use Rattle.scope.specs.Codes.{bit, distance, substring, codeOf}
+use Rattle.scope.proofs.Codes.{bit-lt}
 use Rattle.scope.proofs.Shapes.{facts}
 
-pub bit-lt : (x : List ℕ) (j : ℕ) → bit x j < 2
-unfolding bit
-bit-lt x j = mod-lt (getD x (j / 64) 0 / 2 ^ (j % 64)) (zero-lt-suc 1)
-
 -- ---- substrings
-
-pub substring-lt : (from len : ℕ) (x : List ℕ) → substring from len x < 2 ^ len
-unfolding substring
-substring-lt from len x = number-lt (λ i. bit x (from + i)) len (λ i. bit-lt x (from + i))
 
 -- a low and a high part
 pub substring-append : (from a b : ℕ) (x : List ℕ) → substring from (a + b) x ≡ substring from a x + substring (from + a) b x * 2 ^ a

@@ -26,7 +26,7 @@ use Rattle.scope.specs.Search.{K, nearestSteps, withinSteps}
 use Rattle.scope.specs.Calls.{Asked, room, report, nearestEnd, withinEnd, searchEnd}
 use Rattle.scope.proofs.Shapes.{facts}
 use Rattle.scope.proofs.Opening.{asks, opened-by, open-after}
-use Rattle.codes.proofs.Codes.{substring-lt}
+use Rattle.scope.proofs.Codes.{substring-lt}
 use Rattle.demands.specs.Neighbours.{neighbours, kthDistance}
 use Rattle.demands.specs.Radii.{apart, inRadius}
 use Rattle.demands.specs.Trust.{WithinCall, NearestCall}

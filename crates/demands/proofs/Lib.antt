@@ -2,7 +2,6 @@
 -- what a verdict says (Verdict); Proposition 2 of 003, and what follows (Corollaries). The other files are the way there.
 pub mod Radii
 pub mod Sound
-pub mod Refusing
 pub mod Trusting
 pub mod Listing
 pub mod Owning

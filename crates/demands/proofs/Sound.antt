@@ -28,7 +28,8 @@ use Rattle.scope.proofs.Shapes.{facts}
 use Rattle.scope.proofs.Bucketing.{substring-small, bucket-is, not-bad}
 use Rattle.scope.proofs.Opening.{asks, opened-by}
 use Rattle.scope.proofs.Steps.{enough, steps-at}
-use Rattle.codes.proofs.Codes.{substring-lt, distance-tables, distance-le, distance-sym}
+use Rattle.scope.proofs.Codes.{substring-lt}
+use Rattle.codes.proofs.Codes.{distance-tables, distance-le, distance-sym}
 use Rattle.demands.specs.Neighbours.{neighbours, everyEntry, kthDistance}
 use Rattle.theory.proofs.Elements.{any-more, all-any-false, all-any-same, all-map}
 

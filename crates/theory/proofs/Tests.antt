@@ -83,10 +83,6 @@ pub oneIf-le : (b : Bool) → oneIf b ≤ 1
 oneIf-le true = omega arith
 oneIf-le false = omega arith
 
-pub oneIf-one : (b : Bool) → oneIf b ≡ 1 → b ≡ true
-oneIf-one true e = refl
-oneIf-one false e = absurd (omega arith)
-
 -- below k + 1: below k, or k
 pub oneIf-suc : (a k : ℕ) → oneIf (ltb a (suc k)) ≡ oneIf (ltb a k) + oneIf (eqb a k)
 oneIf-suc a k =

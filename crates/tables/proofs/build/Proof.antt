@@ -1,6 +1,8 @@
 -- `tables::build` meets its contract. Assumes nothing.
+use mathlib.Core.Path.{sym}
 use borrow.Author.Needs.{needs}
-use Rattle.tables.proofs.Unrefused.{build-answer, end-refused, end-done}
+use Rattle.scope.proofs.Ends.{build-refused}
+use Rattle.tables.proofs.Answers.{build-answer, end-done}
 use Rattle.tables.proofs.build.Statement.{statement}
 use Rattle.tables.proofs.build.Tie as tie
 
@@ -17,7 +19,7 @@ same-length-2 : tie.Need-same-length-2
 same-length-2 c = search needs
 
 returns : tie.Need-returns
-returns c = end-refused _ _ (build-answer _ _ _ (c .before .before .before .refused-early .ensures) (c .before .early .given .1))
+returns c = sym (build-refused _ _ (build-answer _ _ _ (c .before .before .before .refused-early .ensures) (c .before .early .given .1)))
 
 enum-told : tie.Need-enum-told
 enum-told c = search needs
