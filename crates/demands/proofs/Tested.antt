@@ -11,7 +11,7 @@ use Rattle.theory.specs.Lists.{count, any, tab}
 use Rattle.theory.proofs.Tests.{same-test, and-left}
 use Rattle.theory.proofs.Lists.{any-one, any-cat-yes, any-cat-at}
 use Rattle.theory.proofs.Counting.{count-cong}
-use Rattle.theory.proofs.Opening.{is}
+use Rattle.theory.proofs.Opening.{is, any-bucket, is-own}
 use Rattle.scope.specs.declared.Report.{Report}
 use Rattle.scope.specs.declared.Found.the-variants.{Listed, Refused}
 use Rattle.scope.specs.Shape.{m, size, listed}
@@ -25,9 +25,9 @@ use Rattle.demands.specs.Neighbours.{kthDistance}
 use Rattle.demands.specs.Answers.{Reported}
 use Rattle.demands.specs.Radii.{inRadius, candidate}
 use Rattle.demands.specs.Trust.{WithinCall, NearestCall}
-use Rattle.demands.proofs.Sound.{is-own, tested-own}
+use Rattle.demands.proofs.Sound.{tested-own}
 use Rattle.demands.proofs.Trusting.{within-ready, nearest-ready}
-use Rattle.demands.proofs.Count.{opened-is, any-bucket, steps-are}
+use Rattle.demands.proofs.Count.{opened-is, steps-are}
 use Rattle.theory.proofs.Elements.{any-more}
 
 -- ---- any tables

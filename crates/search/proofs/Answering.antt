@@ -4,7 +4,6 @@ use mathlib.Core.Bool.{false}
 use mathlib.Core.List.{List, [], _∷_, _++_}
 use Prim.Native.Nat.{ℕ, min, _≤_, _<_}
 use native.Mathlib.Nat.{min-eq-left, min-le-right}
-use native.Mathlib.Omega.{arith}
 use lib.ListN.{length, take, drop}
 use borrow.Author.Tests.{le-ltb, lt-ltb}
 use Rattle.theory.specs.Lists.{any}
@@ -12,13 +11,12 @@ use Rattle.scope.specs.declared.Refusal.{Refusal}
 use Rattle.scope.specs.declared.Refusal.the-variants.{Room}
 use Rattle.scope.specs.declared.Found.{Found}
 use Rattle.scope.specs.declared.Found.the-variants as found
-use Rattle.scope.specs.Shape.{q}
 use Rattle.scope.specs.Tables.{Index, n}
 use Rattle.scope.specs.Walk.{Question}
 use Rattle.scope.specs.Search.{K, nearestSteps, nearest, withinSteps, within}
 use Rattle.scope.specs.Refusals.{Rows, refusal, unless, oneToFive, fewPlaces, tooMany, markWords, changes}
 use Rattle.scope.specs.Calls.{Asked, asked, room, handed, walked, report, SearchEnd, leaves, searchEnd, nearestAnswer, nearestEnd, withinAnswer, withinEnd}
-use Rattle.scope.proofs.Rows.{unless-append, unless-past, lent-front}
+use Rattle.scope.proofs.Rows.{unless-append, unless-past, no-limit, lent-front}
 use Rattle.scope.proofs.Ends.{unchanged, end-is}
 use Rattle.shapes.specs.declared.Early.the-variants.{Fine, Refused}
 use Rattle.search.specs.Past.{nearestFound, nearestPast, withinFound, withinPast}
@@ -29,11 +27,6 @@ use Rattle.search.proofs.Refusing.{none-fits, one-fits, keeps}
 pub early-keeps : (x : Index) (query limits marks : List ℕ) (f : Refusal) → unless (oneToFive x query limits marks) Refused Fine ≡ Refused f → changes (refusal f .0) ≡ false
 unfolding any
 early-keeps x query limits marks f = keeps (oneToFive x query limits marks) f refl
-
--- a search that is given no limit is given none above q
-pub no-limit : (x : Index) (query marks : List ℕ) → oneToFive x query (0 ∷ []) marks ≡ oneToFive x query [] marks
-unfolding any
-no-limit x query marks = rw (le-ltb (q (x .shape)) 0 (omega arith))
 
 -- ---- the marks that are needed, and the rest, which stays
 

@@ -12,7 +12,7 @@ use borrow.Author.Tests.{lt-ltb, le-ltb, ne-eqb}
 use Rattle.theory.specs.Lists.{tab, count, over, padded}
 use Rattle.theory.proofs.Tests.{lt-or-le, eq-or-ne}
 use Rattle.theory.proofs.Lists.{length-padded, padded-take, length-over, over-padded, map-take}
-use Rattle.theory.proofs.Counting.{count-zero, count-le, count-cong}
+use Rattle.theory.proofs.Counting.{count-never, count-le, count-cong}
 use Rattle.theory.proofs.Order.{ranked-cong}
 use Rattle.theory.proofs.Placing.{length-ranked}
 use Rattle.scope.specs.declared.Refusal.{Refusal}
@@ -31,7 +31,7 @@ use Rattle.scope.proofs.Rows.{unless-append, unless-none}
 use Rattle.scope.proofs.Shapes.{facts}
 use Rattle.scope.proofs.Ends.{written, wiped, end-is}
 use Rattle.codes.specs.Marks.{isMarked}
-use Rattle.codes.proofs.Codes.{distance-le}
+use Rattle.scope.proofs.Codes.{distance-le}
 use Rattle.codes.proofs.Marks.{isMarked-zero, isMarked-clear}
 use Rattle.ranking.specs.Rank.{Rankable}
 use Rattle.walk.specs.declared.Met.the-variants as walk
@@ -150,7 +150,7 @@ module _ (ask : Question) (k : ℕ) (h : k ≤ n (ask .index)) (w : Walk) (marks
 -- ---- within
 
 no-entries : (m : ℕ) → m ≡ 0 → (p : ℕ → Bool) → count p m ≡ 0
-no-entries m e p = ap (count p) e ∙ count-zero p
+no-entries m e p = count-never p m (λ i l. absurd (omega arith))
 
 module _ (ask : Question) (r : ℕ) (w : Walk) (marks tally : List ℕ) (walked : Walked ask (withinSteps (ask .index) r) w marks tally) where
   abbrev N : ℕ

@@ -1,21 +1,18 @@
 -- From the nearest two, in lists of the verdict's own, to the verdict. Assumes nothing.
 use mathlib.Core.Path.{_≡_, sym, ap, _∙_}
-use mathlib.Core.Logic.{_⊎_, inl, inr, ⊎-elim}
-use mathlib.Core.Bool.{Bool, false, _||_}
+use mathlib.Core.Logic.{⊎-elim}
+use mathlib.Core.Bool.{false}
 use mathlib.Core.List.{List, [], _∷_, _++_, map}
 use Prim.Native.Nat.{ℕ, max, _+_, _≤_, _<_}
 use native.Mathlib.Nat.{min-le-left}
 use native.Mathlib.Omega.{arith}
-use lib.Dec.{ltb}
 use lib.ListN.{length, getD, take, drop, length-take}
 use lib.Seq.{ext-getD, getD-take, length-take-le}
-use borrow.Author.Tests.{lt-ltb, le-ltb}
-use Rattle.theory.specs.Lists.{any, over, padded}
+use Rattle.theory.specs.Lists.{over, padded}
 use Rattle.theory.proofs.Tests.{lt-or-le}
 use Rattle.theory.proofs.Lists.{length-padded, length-over, over-at, getD-map}
 use Rattle.theory.proofs.Placing.{Here, here, length-ranked, place-key}
 use Rattle.scope.specs.declared.Refusal.{Refusal}
-use Rattle.scope.specs.declared.Refusal.the-variants.{Query}
 use Rattle.scope.specs.declared.Report.{Report}
 use Rattle.scope.specs.declared.Verdict.{Verdict}
 use Rattle.scope.specs.declared.Found.{Found}
@@ -23,30 +20,18 @@ use Rattle.scope.specs.declared.Found.the-variants as found
 use Rattle.scope.specs.declared.Judged.{Judged}
 use Rattle.scope.specs.declared.Judged.the-variants as judged
 use Rattle.scope.specs.Shape.{q}
-use Rattle.scope.specs.Tables.{Index, n}
+use Rattle.scope.specs.Tables.{n}
 use Rattle.scope.specs.Walk.{Question, distanceOf, tested}
 use Rattle.scope.specs.Search.{K, nearestSteps, answers, nearest}
 use Rattle.scope.specs.Verdict.{verdictOf}
-use Rattle.scope.specs.Refusals.{ofFound, unless, oneToThree, wrongQuery, fewMarks, oneToFive, markWords, lent}
+use Rattle.scope.specs.Refusals.{ofFound, unless, oneToFive, markWords, lent}
 use Rattle.scope.specs.Calls.{Asked, asked, handed, walked, report, SearchEnd, leaves, searchEnd, judges, verdictAnswer, verdictEnd}
-use Rattle.scope.proofs.Rows.{oneFits, unless-append, unless-none, all-clear, one-refuses, lent-front}
+use Rattle.scope.proofs.Rows.{oneFits, unless-append, unless-none, all-clear, one-refuses, two-limits, lent-front}
 use Rattle.shapes.specs.declared.Early.the-variants.{Fine, Refused}
 use Rattle.search.specs.Judge.{FirstTwo}
 use Rattle.search.specs.Past.{nearestFound, nearestPast}
 use Rattle.search.proofs.Refusing.{none-fits, one-fits}
 use Rattle.search.proofs.Answering.{early-keeps, same-k}
-
--- the larger of t and g is above q exactly when one of them is
-pub two-limits : (x : Index) (query marks : List ℕ) (t g : ℕ) → oneToFive x query (max t g ∷ []) marks ≡ oneToFive x query (t ∷ g ∷ []) marks
-unfolding any
-two-limits x query marks t g =
-    ap (λ (b : Bool). oneToThree x ++ wrongQuery (x .shape) query ++ (b, Query) ∷ fewMarks x marks) (go (lt-or-le (q (x .shape)) t) (lt-or-le (q (x .shape)) g))
-  where
-    go : (q (x .shape) < t) ⊎ (t ≤ q (x .shape)) → (q (x .shape) < g) ⊎ (g ≤ q (x .shape))
-        → (ltb (q (x .shape)) (max t g) || false) ≡ (ltb (q (x .shape)) t || (ltb (q (x .shape)) g || false))
-    go (inl a) b = rw (lt-ltb (q (x .shape)) t a, lt-ltb (q (x .shape)) (max t g) (omega arith))
-    go (inr a) (inl b) = rw (le-ltb (q (x .shape)) t a, lt-ltb (q (x .shape)) g b, lt-ltb (q (x .shape)) (max t g) (omega arith))
-    go (inr a) (inr b) = rw (le-ltb (q (x .shape)) t a, le-ltb (q (x .shape)) g b, le-ltb (q (x .shape)) (max t g) (omega arith))
 
 listed-apart : (r : Report) (f : Refusal) → found.Refused f ≡ found.Listed r → ⊥
 listed-apart r f e = let y : _≡_ {A = ℕ} 0 1 = cc in omega arith

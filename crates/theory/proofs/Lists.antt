@@ -110,6 +110,23 @@ module _ {A : Type 0} where
       let e : m ≡ z + (m - z) = omega arith in
       (cat (λ i. f (z + i)) (m - z), ap (cat f) e ∙ cat-split f z (m - z))
 
+  pub cat-none : (f : ℕ → List A) (n : ℕ) → ((i : ℕ) → i < n → f i ≡ []) → cat f n ≡ []
+  unfolding cat
+  cat-none f zero h = refl
+  cat-none f (suc n) h = rw (cat-none f n (λ i l. h i (omega arith)), h n (omega arith))
+
+  -- part t is the first that is not empty, and g is without it
+  pub cat-first : (f g : ℕ → List A) (y : A) (t n : ℕ) → t < n → ((i : ℕ) → i < t → f i ≡ []) → f t ≡ y ∷ []
+      → ((i : ℕ) → i ≤ t → g i ≡ []) → ((i : ℕ) → t < i → g i ≡ f i) → cat f n ≡ y ∷ cat g n
+  cat-first f g y t n h before here gone after =
+      let d = n - suc t in
+      let e : n ≡ suc t + d = omega arith in
+      let front : cat f (suc t) ≡ y ∷ [] = cat-suc f t ∙ rw (cat-none f t before, here) in
+      ap (cat f) e ∙ cat-split f (suc t) d
+      ∙ ap₂ (λ (k l : List A). k ++ l) front (cat-cong _ _ d (λ i _. sym (after (suc t + i) (omega arith))))
+      ∙ ap (λ (l : List A). y ∷ l)
+      (sym (ap (cat g) e ∙ cat-split g (suc t) d ∙ rw (cat-none g (suc t) (λ i l. gone i (omega arith)))))
+
   -- ---- tab
 
   pub tab-suc : (f : ℕ → A) (n : ℕ) → tab f (suc n) ≡ tab f n ++ f n ∷ []
@@ -134,6 +151,10 @@ module _ {A : Type 0} where
   pub is-tab : (f : ℕ → A) (d : A) (n : ℕ) (l : List A) → length l ≡ n → ((i : ℕ) → i < n → getD l i d ≡ f i) → l ≡ tab f n
   is-tab f d n l e h =
       ext-getD d l (tab f n) (e ∙ sym (length-tab f n)) (λ i k. let k′ : i < n = rw e at k in h i k′ ∙ sym (getD-tab f d n i k′))
+
+  -- two tables of n elements are equally long
+  pub same-long : (f g : ℕ → A) (n : ℕ) {l l′ : List A} → l ≡ tab f n → l′ ≡ tab g n → length l ≡ length l′
+  same-long f g n e e′ = ap length e ∙ length-tab f n ∙ sym (ap length e′ ∙ length-tab g n)
 
   pub tab-cong : (f g : ℕ → A) (n : ℕ) → ((i : ℕ) → i < n → f i ≡ g i) → tab f n ≡ tab g n
   tab-cong f g n h = cat-cong (λ i. f i ∷ []) (λ i. g i ∷ []) n (λ i l. ap (λ (x : A). x ∷ []) (h i l))
@@ -199,6 +220,9 @@ has-one i x = any-one (eqb i) x
 
 pub has-none : (i : ℕ) → has i [] ≡ false
 has-none i = any-none (eqb i)
+
+pub has-suc : (f : ℕ → ℕ) (n j : ℕ) → has j (tab f (suc n)) ≡ (has j (tab f n) || eqb j (f n))
+has-suc f n j = rw (tab-suc f n) (has-append j (tab f n) (f n ∷ []) ∙ ap (_||_ (has j (tab f n))) (has-one j (f n)))
 
 -- ---- same
 
@@ -269,6 +293,14 @@ module _ {A : Type 0} where
 
 pub over-padded : (P : ℕ) (l old : List ℕ) → length old ≡ P → over (padded P l) old ≡ padded P l
 over-padded P l old e = over-all (padded P l) old (length-padded P l ∙ sym e)
+
+pub take-padded : (P : ℕ) (l old : List ℕ) → length l ≤ P → take (length l) (over (padded P l) old) ≡ l
+take-padded P l old h =
+    let (t, e) = cat-front (λ p. getD l p 0 ∷ []) (length l) P h in
+    ap (λ (a : List ℕ). take (length l) (a ++ drop (length (padded P l)) old)) e
+    ∙ ap (take (length l)) (append-assoc (padded (length l) l) t (drop (length (padded P l)) old))
+    ∙ take-at (padded (length l) l) (t ++ drop (length (padded P l)) old) (length l) (length-padded (length l) l)
+    ∙ padded-all l
 
 pub over-at : (P : ℕ) (l old : List ℕ) (p : ℕ) → p < P → getD (over (padded P l) old) p 0 ≡ getD l p 0
 over-at P l old p h = List·getD-append (padded P l) _ 0 p (rw length-padded h) ∙ getD-tab (λ i. getD l i 0) 0 P p h

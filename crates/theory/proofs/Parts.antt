@@ -5,8 +5,8 @@ use Prim.Native.Nat.{ℕ, zero, suc, _+_, _-_, _*_, _≤_, _<_}
 use native.Mathlib.Nat.{suc-mul, mul-le-mul-right}
 use native.Mathlib.Omega.{arith}
 use borrow.Rule.Slice.PartMut.{putMid}
-use lib.ListN.{length, getD, take, drop, length-append, take-append-drop}
-use lib.Seq.{getD-take, getD-drop, take-at, drop-at, drop-drop, take-add}
+use lib.ListN.{length, getD, take, drop, length-append, length-drop, take-append-drop}
+use lib.Seq.{length-take-le, getD-take, getD-drop, take-at, drop-at, drop-drop, take-add}
 use Rattle.theory.specs.Lists.{cat, tab, over, between}
 use Rattle.theory.proofs.Sums.{sum-cong, sum-const}
 use Rattle.theory.proofs.Lists.{cat-suc, cat-front, length-cat, is-tab}
@@ -14,6 +14,10 @@ use Rattle.theory.proofs.Lists.{cat-suc, cat-front, length-cat, is-tab}
 -- part z of m parts, each w long, ends within them
 pub in-parts : (z m w : ℕ) → z < m → z * w + w ≤ m * w
 in-parts z m w h = omega (arith, suc-mul z w, mul-le-mul-right w h)
+
+-- a part of k elements from a on has k elements
+pub part-long : {A : Type 0} (a k : ℕ) (l : List A) → a + k ≤ length l → length (take k (drop a l)) ≡ k
+part-long a k l h = length-take-le k (drop a l) (simp length-drop (omega arith))
 
 module _ {A : Type 0} (f : ℕ → List A) where
   -- m parts of w elements each

@@ -14,7 +14,7 @@ use borrow.Author.Tests.{le-leb, lt-leb, ne-eqb}
 use Rattle.theory.specs.Lists.{firstFrom, count}
 use Rattle.theory.proofs.Tests.{either, eq-or-ne}
 use Rattle.theory.proofs.Lists.{tab-cong, first-none, first-is, first-past, first-shift}
-use Rattle.theory.proofs.Counting.{upto-gap, count-zero, count-cong, count-le}
+use Rattle.theory.proofs.Counting.{upto-gap, count-never, count-cong, count-le}
 use Rattle.theory.proofs.Placing.{lower-suc, lower-zero}
 use Rattle.scope.specs.declared.Refusal.{Refusal}
 use Rattle.scope.specs.Shape.{q}
@@ -33,7 +33,7 @@ use Rattle.walk.proofs.Opening.{not-both, met-none, met-past, met-stays
 -- where nothing is marked, nothing is counted
 count-none : (marks : List ℕ) → ((i : ℕ) → isMarked marks i ≡ false) → (m : ℕ) (t : ℕ → Bool) → count (λ i. t i && isMarked marks i) m ≡ 0
 count-none marks none m t =
-    ap length (upto-gap (λ i. t i && isMarked marks i) 0 m (omega arith) (λ i _ _. rw (none i) (and-false (t i)))) ∙ count-zero (λ i. t i && isMarked marks i)
+    count-never (λ i. t i && isMarked marks i) m (λ i _. rw (none i) (and-false (t i)))
 
 -- ---- one step
 
