@@ -1,2 +1,2 @@
--- Laws of codes and of marks.
+-- Laws of marks.
 pub mod Marks

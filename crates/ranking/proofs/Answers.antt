@@ -1,6 +1,6 @@
 -- Entries placed one after another, in entry order, become the answers in their order. Assumes nothing.
 use mathlib.Core.Path.{_≡_, refl, sym, ap, ap₂, _∙_}
-use mathlib.Core.Logic.{_⊎_, inl, inr, ⊎-elim}
+use mathlib.Core.Logic.{_⊎_, inl, inr}
 use mathlib.Core.Bool.{Bool, true, false, _&&_, cond}
 use mathlib.Core.List.{List, [], _∷_, _++_, map, map-id}
 use Prim.Native.Nat.{ℕ, zero, suc, _+_, _≤_, _<_}
@@ -8,11 +8,11 @@ use native.Mathlib.Nat.{le-refl, add-zero, zero-add, suc-add}
 use native.Mathlib.Omega.{arith}
 use lib.Dec.{ltb, leb}
 use lib.ListN.{length, getD, set, length-set}
-use lib.Seq.{set-out, getD-set-same, getD-set-other}
+use lib.Seq.{set-out}
 use borrow.Author.Tests.{lt-ltb, le-ltb, le-leb, lt-leb, leb-true, leb-false}
 use Rattle.theory.specs.Lists.{cat, tab, upto, count, ranked, padded}
-use Rattle.theory.proofs.Tests.{ltb-suc, lt-or-le, eq-or-ne, both-ways, leb-is-ltb}
-use Rattle.theory.proofs.Lists.{length-tab, getD-tab, tab-cong}
+use Rattle.theory.proofs.Tests.{ltb-suc, lt-or-le, both-ways, leb-is-ltb}
+use Rattle.theory.proofs.Lists.{length-tab, getD-tab, tab-cong, one-more}
 use Rattle.theory.proofs.Counting.{only, count-cong}
 use Rattle.theory.proofs.Placing.{lower, among, placeOf, soFar, lower-suc, put, skip, none-done, all-done, next-up, next-same}
 use Rattle.ranking.specs.Place.{Lists, lists, place, placeEach, Free}
@@ -38,14 +38,6 @@ module _ (dist : ℕ → ℕ) (limit i d : ℕ) (e : d ≡ dist i) (next entries
       ap₂ (lists (set next d (getD next d 0 + 1))) (sym (set-out entries (getD next d 0) i p)) (sym (set-out distances (getD next d 0) d q)) ∙ placed-near h
 
 -- ---- one after another
-
-one-more : (l : List ℕ) (j d : ℕ) → getD (set l j (getD l j 0 + 1)) d 0 ≤ getD l d 0 + 1
-one-more l j d =
-    ⊎-elim
-    (λ (h : j < length l).
-    ⊎-elim (λ (e : d ≡ j). rw e (omega (arith, getD-set-same l j (getD l j 0 + 1) 0 h)))
-    (λ (ne : d ≡ j → ⊥). omega (arith, getD-set-other l j d (getD l j 0 + 1) 0 ne)) (eq-or-ne d j))
-    (λ (g : length l ≤ j). rw (set-out l j (getD l j 0 + 1) g) (omega arith)) (lt-or-le j (length l))
 
 module _ (dist : ℕ → ℕ) (limit : ℕ) where
   pub each-one : (i : ℕ) (l : List ℕ) (a : Lists) → placeEach dist limit (i ∷ l) a ≡ placeEach dist limit l (place dist limit i a)

@@ -20,7 +20,7 @@ use Rattle.scope.proofs.Shapes.{facts}
 
 pub bit-lt : (x : List ℕ) (j : ℕ) → bit x j < 2
 unfolding bit
-bit-lt x j = mod-lt (getD x (j / 64) 0 / 2 ^ (j % 64)) (zero-lt-suc 1)
+bit-lt x j = mod-lt _ (zero-lt-suc 1)
 
 -- ---- substrings
 

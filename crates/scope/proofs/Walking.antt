@@ -1,4 +1,4 @@
--- Laws of the walk: what one more step opens and tests, and that buckets that are not bad list entries. Assumes nothing.
+-- Laws of the walk: what one more step opens and tests, that buckets that are not bad list entries, and how many answers there are. Assumes nothing.
 use mathlib.Core.Path.{_≡_, refl, sym, ap, _∙_}
 use mathlib.Core.Logic.{⊎-elim}
 use mathlib.Core.Bool.{Bool, true, false, _&&_, _||_}
@@ -9,14 +9,18 @@ use native.Mathlib.Omega.{arith}
 use lib.Dec.{eqb, ltb, leb}
 use lib.Count.{ones}
 use lib.ListN.{length, length-append, length-map}
-use borrow.Author.Tests.{eqb-true, ltb-false, leb-false}
+use borrow.Author.Tests.{lt-ltb, eqb-true, ltb-false, leb-false}
 use Rattle.theory.specs.Lists.{cat, count, any, has}
 use Rattle.theory.proofs.Tests.{either, both-ways, or-true, or-false-left, or-false-right, leb-is-ltb}
 use Rattle.theory.proofs.Lists.{cat-suc, any-append, any-one, any-none, any-map, any-cat-yes, any-cat-at}
 use Rattle.theory.proofs.Counting.{count-le, count-cong}
-use Rattle.scope.specs.Shape.{size, m}
+use Rattle.theory.proofs.Placing.{length-ranked}
+use Rattle.scope.specs.Codes.{codeOf}
+use Rattle.scope.specs.Shape.{q, size, m}
 use Rattle.scope.specs.Tables.{Index, n, start, idAt, places, bucket, badId, bad}
 use Rattle.scope.specs.Walk.{Question, distanceOf, opens, opened, tested, near}
+use Rattle.scope.specs.Search.{answers}
+use Rattle.scope.proofs.Codes.{distance-le}
 use Rattle.scope.proofs.Shapes.{Facts, few-buckets}
 
 -- ---- steps
@@ -99,3 +103,16 @@ module _ (x : Index) where
   lists-entry (b ∷ l) i h e =
       ⊎-elim (λ here. bucket-entry (b .0) (b .1) i (or-false-left (bad x (b .0) (b .1)) _ h) here)
       (λ later. lists-entry l i (or-false-right (bad x (b .0) (b .1)) _ h) later) (or-true (has i (bucket x (b .0) (b .1))) _ e)
+
+-- ---- answers
+
+pub few-answers : (ask : Question) (keep : ℕ → Bool) (top : ℕ) → length (answers ask keep top) ≤ n (ask .index)
+few-answers ask keep top =
+    omega (arith, length-ranked (n (ask .index)) (distanceOf ask) keep (top + 1), count-le (λ i. ltb (distanceOf ask i) (top + 1) && keep i) (n (ask .index)))
+
+-- every entry is within q of the query: as many answers as kept entries
+pub all-within : (ask : Question) (keep : ℕ → Bool) → length (answers ask keep (q (ask .index .shape))) ≡ count keep (n (ask .index))
+all-within ask keep =
+    length-ranked (n (ask .index)) (distanceOf ask) keep (q (ask .index .shape) + 1)
+    ∙ count-cong _ _ (n (ask .index))
+    (λ i _. ap (λ (b : Bool). b && keep i) (lt-ltb (distanceOf ask i) (q (ask .index .shape) + 1) (omega (arith, distance-le (q (ask .index .shape)) (codeOf (ask .index .shape .w) (ask .index .codes) i) (ask .query)))))

@@ -20,7 +20,6 @@ use Rattle.scope.specs.declared.Refusal.the-variants.{TooMany, BadBucket}
 use Rattle.scope.specs.declared.Tested.{Tested}
 use Rattle.scope.specs.declared.Found.{Found}
 use Rattle.scope.specs.declared.Found.the-variants as found
-use Rattle.scope.specs.Codes.{codeOf}
 use Rattle.scope.specs.Shape.{q}
 use Rattle.scope.specs.Tables.{Index, n, bad}
 use Rattle.scope.specs.Walk.{Question, distanceOf, opened, tested}
@@ -31,7 +30,7 @@ use Rattle.scope.proofs.Rows.{unless-append, unless-none}
 use Rattle.scope.proofs.Shapes.{facts}
 use Rattle.scope.proofs.Ends.{written, wiped, end-is}
 use Rattle.codes.specs.Marks.{isMarked}
-use Rattle.scope.proofs.Codes.{distance-le}
+use Rattle.scope.proofs.Walking.{all-within}
 use Rattle.codes.proofs.Marks.{isMarked-zero, isMarked-clear}
 use Rattle.ranking.specs.Rank.{Rankable}
 use Rattle.walk.specs.declared.Met.the-variants as walk
@@ -81,13 +80,6 @@ pub near-few : (ask : Question) (N : ℕ) (w : Walk) (marks tally : List ℕ) �
 near-few ask N w marks tally e = omega (arith, e .near, count-le (λ i. ltb (distanceOf ask i) N && tested ask N i) (n (ask .index)))
 
 -- ---- lists of answers
-
--- every entry is within q of the query: as many answers as kept entries
-pub all-within : (ask : Question) (keep : ℕ → Bool) → length (answers ask keep (q (ask .index .shape))) ≡ count keep (n (ask .index))
-all-within ask keep =
-    length-ranked (n (ask .index)) (distanceOf ask) keep (q (ask .index .shape) + 1)
-    ∙ count-cong _ _ (n (ask .index))
-    (λ i _. ap (λ (b : Bool). b && keep i) (lt-ltb (distanceOf ask i) (q (ask .index .shape) + 1) (omega (arith, distance-le (q (ask .index .shape)) (codeOf (ask .index .shape .w) (ask .index .codes) i) (ask .query)))))
 
 -- a bad bucket is refusal 7
 pub seven : (x : Index) (l : List (ℕ × ℕ)) (f : Refusal) → metIn x l ≡ walk.Refused f → refusal f .0 ≡ 7

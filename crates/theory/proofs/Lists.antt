@@ -10,7 +10,7 @@ use native.Mathlib.Decide.{le-ind}
 use native.Mathlib.Omega.{arith}
 use lib.Dec.{eqb}
 use lib.ListN.{length, getD, take, drop, set, length-append, length-drop, length-set, drop-of-length-le, List·getD-append}
-use lib.Seq.{ext-getD, getD-at, getD-take, take-at, drop-at, length-take-le, getD-set-same, getD-set-other}
+use lib.Seq.{ext-getD, getD-at, getD-take, take-at, drop-at, length-take-le, sets, set-out, getD-set-same, getD-set-other}
 use borrow.Author.Tests.{eqb-true, eq-eqb}
 use Rattle.theory.specs.Lists.{sum, firstFrom, cat, tab, any, over, between, has, same, padded}
 use Rattle.theory.proofs.Tests.{either, lt-or-le, both-ways, eq-or-ne, or-true, or-left, or-right, and-left, and-right}
@@ -245,6 +245,24 @@ same-yes k l e = rw e (same-refl l)
 
 pub same-no : (k l : List ℕ) → (k ≡ l → ⊥) → same k l ≡ false
 same-no k l f = ⊎-elim (λ (e : same k l ≡ true). absurd (f (same-true k l e))) (λ (e : same k l ≡ false). e) (either (same k l))
+
+-- ---- set
+
+-- one more at place j is at most one more at place d
+pub one-more : (l : List ℕ) (j d : ℕ) → getD (set l j (getD l j 0 + 1)) d 0 ≤ getD l d 0 + 1
+one-more l j d =
+    ⊎-elim
+    (λ (h : j < length l).
+    ⊎-elim (λ (e : d ≡ j). rw e (omega (arith, getD-set-same l j (getD l j 0 + 1) 0 h)))
+    (λ (ne : d ≡ j → ⊥). omega (arith, getD-set-other l j d (getD l j 0 + 1) 0 ne)) (eq-or-ne d j))
+    (λ (g : length l ≤ j). rw (set-out l j (getD l j 0 + 1) g) (omega arith)) (lt-or-le j (length l))
+
+-- one list after another
+pub sets-append : {A : Type 0} (a l : List A) (i : ℕ) (b : List A) → sets (sets l i a) (i + length a) b ≡ sets l i (a ++ b)
+sets-append [] l i b = rw add-zero
+sets-append (x ∷ a) l i b =
+    let e : i + suc (length a) ≡ suc i + length a = omega arith in
+    ap (λ (k : ℕ). sets (sets (set l i x) (suc i) a) k b) e ∙ sets-append a (set l i x) (suc i) b
 
 -- ---- map
 

@@ -1,23 +1,20 @@
 -- What a search lists, prints and leaves: no more than n answers; the same text whatever the lists held; lists as long as they were. Assumes nothing.
 use mathlib.Core.Path.{_≡_, refl, ap, ap₂, sym, _∙_}
-use mathlib.Core.Bool.{Bool, _&&_}
 use mathlib.Core.List.{List, _++_}
-use Prim.Native.Nat.{ℕ, _+_, min, _≤_}
+use Prim.Native.Nat.{ℕ, min, _≤_}
 use native.Mathlib.Omega.{arith}
-use lib.Dec.{ltb}
 use lib.ListN.{length, getD, length-take}
 use Rattle.theory.proofs.Lists.{cat-cong}
-use Rattle.theory.proofs.Counting.{count-le}
-use Rattle.theory.proofs.Placing.{length-ranked}
 use Rattle.scope.specs.declared.Found.{Found}
 use Rattle.scope.specs.declared.Found.the-variants as found
 use Rattle.scope.specs.Shape.{q}
 use Rattle.scope.specs.Tables.{Index, n}
-use Rattle.scope.specs.Walk.{distanceOf, tested}
+use Rattle.scope.specs.Walk.{tested}
 use Rattle.scope.specs.Walk as walk
 use Rattle.scope.specs.Search.{K, nearestSteps, nearest, withinSteps, within, answers}
 use Rattle.scope.specs.Refusals.{lent, ofFound}
 use Rattle.scope.specs.Calls.{Asked, asked, room, report, nearestAnswer, withinAnswer, searchEnd, nearestEnd, withinEnd, verdictAnswer, verdictEnd}
+use Rattle.scope.proofs.Walking.{few-answers}
 use Rattle.scope.proofs.Rows.{unless-holds, lent-at, length-lent}
 use Rattle.reading.specs.declared.Question.{Question}
 use Rattle.reading.specs.declared.Question.the-variants.{Nearest, Within, Verdict, Sky}
@@ -26,10 +23,6 @@ use Rattle.transcript.specs.Questions.{Lists, asks, reply}
 use Rattle.transcript.specs.Transcript.{fresh}
 
 -- ---- how many answers there are
-
-few-answers : (ask : walk.Question) (keep : ℕ → Bool) (top : ℕ) → length (answers ask keep top) ≤ n (ask .index)
-few-answers ask keep top =
-    omega (arith, length-ranked (n (ask .index)) (distanceOf ask) keep (top + 1), count-le (λ i. ltb (distanceOf ask i) (top + 1) && keep i) (n (ask .index)))
 
 pub nearest-few : (c : Asked) (k : ℕ) → answersOf (nearestAnswer c k) ≤ K (c .question .index) k
 unfolding nearestAnswer report nearest
