@@ -1,3 +1,3 @@
 -- The laws by which one table is filled and checked.
-pub mod Filling
+pub mod Building
 pub mod Order

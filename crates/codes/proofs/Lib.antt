@@ -1,3 +1,2 @@
--- Laws of codes and of marks.
-pub mod Codes
+-- Laws of marks.
 pub mod Marks

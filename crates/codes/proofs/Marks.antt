@@ -16,7 +16,7 @@ use Rattle.theory.proofs.Digits.{digit-or, digit-power}
 use Rattle.theory.proofs.Lists.{getD-tab, length-padded}
 use Rattle.scope.specs.Codes.{bit}
 use Rattle.codes.specs.Marks.{isMarked, withMark}
-use Rattle.codes.proofs.Codes.{bit-lt}
+use Rattle.scope.proofs.Codes.{bit-lt}
 
 -- ---- one mark set
 

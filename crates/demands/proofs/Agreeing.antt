@@ -5,7 +5,7 @@ use mathlib.Core.Bool.{Bool, true, false}
 use mathlib.Core.List.{List, [], _∷_, _++_, map, append-assoc, map-append}
 use Prim.Native.Nat.{ℕ}
 use lib.ListN.{length}
-use Rattle.theory.specs.Lists.{any, ranked}
+use Rattle.theory.specs.Lists.{ranked}
 use Rattle.theory.proofs.Tests.{or-right}
 use Rattle.theory.proofs.Lists.{any-append}
 use Rattle.theory.proofs.Counting.{count-cong}
@@ -18,9 +18,8 @@ use Rattle.scope.specs.Tables.{Index, n}
 use Rattle.scope.specs.Walk.{Question, distanceOf, opens, opened, tested, openedCount}
 use Rattle.scope.specs.Refusals.{Rows, refusal, met, unless, lent, markWords}
 use Rattle.scope.specs.Calls.{Asked, handed, walked, report, searchEnd}
-use Rattle.scope.proofs.Rows.{unless-append}
+use Rattle.scope.proofs.Rows.{oneFits, firstFits, unless-append, unless-one, met-any}
 use Rattle.demands.specs.Places.{reached, retabled, reasked, recalled}
-use Rattle.demands.proofs.Refusing.{OneFits, firstFits, unless-one, met-any}
 use Rattle.demands.proofs.Owning.{Same, AllSame}
 use Rattle.demands.proofs.Reaching.{oneBad, met-same, one-bad-same, opened-same, tested-same, Compared}
 
@@ -60,10 +59,10 @@ module _ {A : Type 0} (x : Index) (a b : Rows) (refused : Refusal → A) (answer
       ∙ unless-append (a ++ met x l) (met x t ++ b) refused answer
       ∙ unless-one (a ++ met x l) refused (unless (met x t ++ b) refused answer) fits
     where
-      fits : OneFits (a ++ met x l)
+      fits : oneFits (a ++ met x l) ≡ true
       fits =
           any-append (λ (row : Bool × Refusal). row .0) a (met x l)
-          ∙ or-right (any (λ (row : Bool × Refusal). row .0) a) _ (met-any x l ∙ one)
+          ∙ or-right (oneFits a) _ (met-any x l ∙ one)
 
 -- the refusal is the same under both pairs of tables
 first-bad-same : (x y : Index) (a : Rows) (l : List (ℕ × ℕ)) → All (Same x y) (reached x l) → firstFits (a ++ met y l) ≡ firstFits (a ++ met x l)

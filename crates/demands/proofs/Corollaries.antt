@@ -29,7 +29,7 @@ use Rattle.scope.specs.Walk.{Question, distanceOf}
 use Rattle.scope.specs.Search.{K, nearestSteps, withinSteps}
 use Rattle.scope.specs.Calls.{Asked, nearestEnd, verdictEnd}
 use Rattle.scope.proofs.Shapes.{facts}
-use Rattle.codes.proofs.Codes.{distance-self}
+use Rattle.scope.proofs.Codes.{distance-self}
 use Rattle.demands.specs.Neighbours.{neighbours, everyEntry, kthDistance}
 use Rattle.demands.specs.Trust.{NearestCall, VerdictCall}
 use Rattle.demands.proofs.Sound.{length-every, kth-smallest}

@@ -1,18 +1,18 @@
 -- Demand 3, the count: over trusted tables the search for the k nearest opens the buckets of the blackboard, each once, and reports their number. Assumes nothing.
-use mathlib.Core.Path.{_≡_, refl, sym, ap, _∙_}
+use mathlib.Core.Path.{_≡_, sym, ap, _∙_}
 use mathlib.Core.Logic.{inl, inr, ⊎-elim}
 use mathlib.Core.Bool.{Bool, true, false, _&&_, and-true, and-false}
-use mathlib.Core.List.{List, [], _∷_}
 use Prim.Native.Nat.{ℕ, suc, _+_, _-_, _*_, _^_, _≤_, _<_}
 use native.Mathlib.Omega.{arith}
 use lib.Arith.{digits-div, digits-mod}
 use lib.Count.{ones}
 use lib.Dec.{ltb, leb}
 use lib.ListN.{length}
-use borrow.Author.Tests.{lt-ltb, le-ltb, eq-eqb, ne-eqb}
+use borrow.Author.Tests.{lt-ltb, le-ltb, ne-eqb}
 use Rattle.theory.specs.Lists.{any, count}
 use Rattle.theory.specs.Binomials.{L}
-use Rattle.theory.proofs.Tests.{either, both-ways, lt-or-le, or-right, oneIf, leb-is-ltb}
+use Rattle.theory.proofs.Radii.{by-radius}
+use Rattle.theory.proofs.Tests.{lt-or-le, oneIf, leb-is-ltb}
 use Rattle.theory.proofs.Counting.{count-cong}
 use Rattle.theory.proofs.Placing.{all, lower-all}
 use Rattle.theory.proofs.Times.{times, any-times}
@@ -26,7 +26,7 @@ use Rattle.scope.specs.Search.{K, nearestSteps, withinSteps}
 use Rattle.scope.specs.Calls.{Asked, room, report, nearestEnd, withinEnd, searchEnd}
 use Rattle.scope.proofs.Shapes.{facts}
 use Rattle.scope.proofs.Opening.{asks, opened-by, open-after}
-use Rattle.codes.proofs.Codes.{substring-lt}
+use Rattle.scope.proofs.Codes.{substring-lt}
 use Rattle.demands.specs.Neighbours.{neighbours, kthDistance}
 use Rattle.demands.specs.Radii.{apart, inRadius}
 use Rattle.demands.specs.Trust.{WithinCall, NearestCall}
@@ -34,7 +34,6 @@ use Rattle.demands.proofs.Sound.{steps-kth, kth-smallest}
 use Rattle.demands.proofs.Trusting.{within-ready, nearest-ready}
 use Rattle.demands.proofs.Within.{within-answer}
 use Rattle.demands.proofs.Nearest.{length-first, nearest-answer}
-use Rattle.demands.proofs.Radii.{by-radius}
 
 -- bucket v of table z stands once among what the steps 0 to m·r + a open where it is in its radius, and else never
 pub opened-radii : (ask : Question) → listed (ask .index .shape) ≡ true → (r a z v : ℕ) → a < m (ask .index .shape)
@@ -68,14 +67,6 @@ opened-is ask ls r a z v ha =
     positive : (b : Bool) → ltb 0 (oneIf b) ≡ b
     positive true = lt-ltb 0 1 (omega arith)
     positive false = le-ltb 0 0 (omega arith)
-
--- a bucket of a list that passes the test
-pub any-bucket : (t : ℕ × ℕ → Bool) (l : List (ℕ × ℕ)) → any t l ≡ true → (b : ℕ × ℕ) × (t b ≡ true) × (any (is (b .0) (b .1)) l ≡ true)
-unfolding any
-any-bucket t [] h = both-ways (sym h)
-any-bucket t (b ∷ l) h =
-    ⊎-elim (λ (e : t b ≡ true). (b, e, rw (eq-eqb (b .0) (b .0) refl, eq-eqb (b .1) (b .1) refl)))
-    (λ (e : t b ≡ false). let (c, p, q) = any-bucket t l (rw e at h) in (c, p, or-right (is (c .0) (c .1) b) (any (is (c .0) (c .1)) l) q)) (either (t b))
 
 -- D is the K-th smallest distance: fewer than K entries are nearer than D, and K or more no farther
 pub kth-is : (ask : Question) (K : ℕ) → 0 < K → K ≤ n (ask .index)

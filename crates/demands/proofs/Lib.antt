@@ -1,8 +1,6 @@
 -- The lab's demands, a file for each: what is listed (Within, Nearest), what is opened and counted (Count, Tested), what the answers depend on (Locality),
 -- what a verdict says (Verdict); Proposition 2 of 003, and what follows (Corollaries). The other files are the way there.
-pub mod Radii
 pub mod Sound
-pub mod Refusing
 pub mod Trusting
 pub mod Listing
 pub mod Owning

@@ -1,16 +1,15 @@
 -- What a search that lists l leaves in its two answer lists; and that the scan's lists hold each entry once, in order. Assumes nothing.
 use mathlib.Core.Path.{_≡_, sym, ap, _∙_}
 use mathlib.Core.Bool.{Bool, true, _&&_, and-true}
-use mathlib.Core.List.{List, [], _∷_, _++_, map, append-assoc}
+use mathlib.Core.List.{List, map}
 use Prim.Native.Nat.{ℕ, _+_, _≤_}
 use native.Mathlib.Numerals.{add-one}
 use lib.Dec.{ltb, leb}
-use lib.ListN.{length, getD, take, drop, length-map}
-use lib.Seq.{take-at}
+use lib.ListN.{length, take, length-map}
 use borrow.Author.Tests.{le-leb}
 use Rattle.theory.specs.Lists.{over, padded}
 use Rattle.theory.proofs.Tests.{oneIf, leb-is-ltb}
-use Rattle.theory.proofs.Lists.{cat-front, padded-all, length-padded}
+use Rattle.theory.proofs.Lists.{take-padded}
 use Rattle.theory.proofs.Order.{ranked-sorted, ranked-once, order-unique}
 use Rattle.scope.specs.declared.Report.{Report}
 use Rattle.scope.specs.declared.Found.{Found}
@@ -21,19 +20,11 @@ use Rattle.scope.specs.Tables.{n}
 use Rattle.scope.specs.Walk.{Question, distanceOf}
 use Rattle.scope.specs.Refusals.{lent}
 use Rattle.scope.specs.Calls.{Asked, searchEnd}
-use Rattle.codes.proofs.Codes.{distance-le}
+use Rattle.scope.proofs.Codes.{distance-le}
 use Rattle.demands.specs.Neighbours.{neighbours, everyEntry}
 use Rattle.demands.specs.Answers.{Exactly, Lists}
 
 -- ---- the first places of an answer list
-
-front : (P : ℕ) (l old : List ℕ) → length l ≤ P → take (length l) (over (padded P l) old) ≡ l
-front P l old h =
-    let (t, e) = cat-front (λ p. getD l p 0 ∷ []) (length l) P h in
-    ap (λ (a : List ℕ). take (length l) (a ++ drop (length (padded P l)) old)) e
-    ∙ ap (take (length l)) (append-assoc (padded (length l) l) t (drop (length (padded P l)) old))
-    ∙ take-at (padded (length l) l) (t ++ drop (length (padded P l)) old) (length l) (length-padded (length l) l)
-    ∙ padded-all l
 
 pub lists : (c : Asked) (r : Found) (P : ℕ) (l : List ℕ) (rep : Report) → r ≡ Listed rep → rep .answers ≡ length l → length l ≤ P
     → Lists c (searchEnd c r P l) l
@@ -42,11 +33,11 @@ lists c r P l rep e a h = record {
   report = rep;
   listed = e;
   answers = a;
-  entries = rw e (front P l (c .entries) h);
+  entries = rw e (take-padded P l (c .entries) h);
   distances =
       let dist = distanceOf (c .question) in
       rw e (ap (λ (k : ℕ). take k (over (padded P (map dist l)) (c .distances))) (sym (length-map l dist))
-      ∙ front P (map dist l) (c .distances) (rw length-map h));
+      ∙ take-padded P (map dist l) (c .distances) (rw length-map h));
 }
 
 -- ---- the scan

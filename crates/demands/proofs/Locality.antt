@@ -7,7 +7,7 @@ use mathlib.Core.List.{List, [], _∷_, _++_, append-nil}
 use Prim.Native.Nat.{ℕ, _+_, _*_, _<_, min}
 use lib.ListN.{length, take, getD}
 use Rattle.theory.specs.Lists.{any, ranked}
-use Rattle.theory.proofs.Opening.{is}
+use Rattle.theory.proofs.Opening.{is, any-bucket}
 use Rattle.scope.specs.declared.Report.{Report}
 use Rattle.scope.specs.declared.Judged.{Judged}
 use Rattle.scope.specs.declared.Judged.the-variants as judged
@@ -24,7 +24,7 @@ use Rattle.demands.specs.Trust.{NearestCall}
 use Rattle.demands.specs.Places.{reached, reasked, recalled, Agree}
 use Rattle.demands.proofs.Sound.{none-bad}
 use Rattle.demands.proofs.Trusting.{Ready, nearest-ready}
-use Rattle.demands.proofs.Count.{opened-is, any-bucket, steps-are}
+use Rattle.demands.proofs.Count.{opened-is, steps-are}
 use Rattle.demands.proofs.Owning.{AllSame}
 use Rattle.demands.proofs.Reaching.{reached-all, compare-same, compare-nearest}
 use Rattle.demands.proofs.Agreeing.{quiet-handed, report-same, answers-same, alike, search-local}

@@ -11,12 +11,11 @@ use Rattle.scope.specs.Walk.{Question, opened}
 use Rattle.scope.specs.Search.{K, nearestSteps, nearest}
 use Rattle.scope.specs.Refusals.{fewPlaces}
 use Rattle.scope.specs.Calls.{Asked, room, handed, walked, report, nearestAnswer, nearestEnd}
-use Rattle.scope.proofs.Rows.{unless-none}
+use Rattle.scope.proofs.Rows.{unless-none, unless-past, met-any}
 use Rattle.demands.specs.Neighbours.{everyEntry}
 use Rattle.demands.specs.Answers.{Exactly, Lists}
 use Rattle.demands.specs.Trust.{NearestCall}
 use Rattle.demands.proofs.Sound.{none-bad, length-every, nearest-scan}
-use Rattle.demands.proofs.Refusing.{unless-past, met-any}
 use Rattle.demands.proofs.Trusting.{nearest-ready}
 use Rattle.demands.proofs.Listing.{lists, every-exactly}
 

@@ -10,9 +10,9 @@ use Rattle.theory.proofs.Tests.{lt-or-le}
 use Rattle.theory.proofs.Pigeon.{pigeon-step}
 use Rattle.scope.specs.declared.Shape.{Shape}
 use Rattle.scope.specs.Shape.{q, listed, m, firstBit, len}
-use Rattle.codes.proofs.Codes.{distance-cuts, distance-tables}
+use Rattle.scope.proofs.Codes.{distance-cuts, distance-tables}
 use Rattle.demands.specs.Neighbours.{Neighbour, apartIn, OneClose}
-use Rattle.demands.proofs.Radii.{radius-first, radius-rest}
+use Rattle.theory.proofs.Radii.{radius-first, radius-rest}
 
 by-radii : (apart : ℕ → ℕ) (m r′ a : ℕ) → a < m → sum apart m ≤ m * r′ + a → OneClose apart m r′ a
 by-radii apart m r′ a h l =

@@ -11,14 +11,14 @@ use lib.Bits.{bitXor, xor-lt}
 use lib.Count.{ones}
 use lib.Dec.{eqb, ltb, leb}
 use lib.ListN.{length, getD, take}
-use borrow.Author.Tests.{eqb-true, eq-eqb, ne-eqb, lt-ltb, le-ltb, le-leb, lt-leb}
+use borrow.Author.Tests.{ne-eqb, lt-ltb, le-ltb, le-leb, lt-leb}
 use Rattle.theory.specs.Lists.{upto, any, has}
-use Rattle.theory.proofs.Tests.{lt-or-le, and-left, and-right}
+use Rattle.theory.proofs.Tests.{lt-or-le}
 use Rattle.theory.proofs.Counting.{count-cong, has-upto}
 use Rattle.theory.proofs.Times.{any-times}
 use Rattle.theory.proofs.Order.{All, all-imp, cat-all, upto-all, ranked-cong, first-ranked}
 use Rattle.theory.proofs.Placing.{all, lower, lower-mono, lower-full, length-ranked, Here, here, placeOf, place-below}
-use Rattle.theory.proofs.Opening.{is, found}
+use Rattle.theory.proofs.Opening.{is, is-own, found}
 use Rattle.scope.specs.Codes.{codeOf}
 use Rattle.scope.specs.Shape.{q, m, listed, firstBit, len, size}
 use Rattle.scope.specs.Tables.{n, substringOf, bad, sound}
@@ -28,16 +28,9 @@ use Rattle.scope.proofs.Shapes.{facts}
 use Rattle.scope.proofs.Bucketing.{substring-small, bucket-is, not-bad}
 use Rattle.scope.proofs.Opening.{asks, opened-by}
 use Rattle.scope.proofs.Steps.{enough, steps-at}
-use Rattle.codes.proofs.Codes.{substring-lt, distance-tables, distance-le, distance-sym}
+use Rattle.scope.proofs.Codes.{substring-lt, distance-tables, distance-le, distance-sym}
 use Rattle.demands.specs.Neighbours.{neighbours, everyEntry, kthDistance}
 use Rattle.theory.proofs.Elements.{any-more, all-any-false, all-any-same, all-map}
-
--- the bucket of its own substring
-pub is-own : (sub : ℕ → ℕ → ℕ) (i z : ℕ) (b : ℕ × ℕ) → is z (sub z i) b ≡ true → eqb (sub (b .0) i) (b .1) ≡ true
-is-own sub i z b e =
-    let at = eqb-true z (b .0) (and-left (eqb z (b .0)) (eqb (sub z i) (b .1)) e) in
-    let v = eqb-true (sub z i) (b .1) (and-right (eqb z (b .0)) (eqb (sub z i) (b .1)) e) in
-    eq-eqb (sub (b .0) i) (b .1) (ap (λ (z : ℕ). sub z i) (sym at) ∙ v)
 
 module _ (ask : Question) (ls : listed (ask .index .shape) ≡ true) where
   -- the opened buckets are the tables' own

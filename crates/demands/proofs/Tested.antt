@@ -1,19 +1,17 @@
 -- Tested means what 01 says: the reported count is the number of entries that an opened bucket lists; over trusted tables, of the entries that have
 -- a substring within the opened radius in some table. Assumes nothing.
 use mathlib.Core.Path.{_≡_, sym, ap, _∙_}
-use mathlib.Core.Logic.{⊎-elim}
-use mathlib.Core.Bool.{Bool, true, _&&_}
+use mathlib.Core.Bool.{true, _&&_}
 use mathlib.Core.List.{[], _∷_}
 use Prim.Native.Nat.{ℕ, _+_, _*_, _<_}
 use native.Mathlib.Omega.{arith}
 use lib.Dec.{eqb, ltb}
 use borrow.Author.Tests.{eqb-true, ne-eqb, ltb-true}
 use Rattle.theory.specs.Lists.{count, any, tab}
-use Rattle.theory.proofs.Tests.{either, same-test, and-left}
+use Rattle.theory.proofs.Tests.{same-test, and-left}
 use Rattle.theory.proofs.Lists.{any-one, any-cat-yes, any-cat-at}
 use Rattle.theory.proofs.Counting.{count-cong}
-use Rattle.theory.proofs.Opening.{is}
-use Rattle.scope.specs.declared.Refusal.{Refusal}
+use Rattle.theory.proofs.Opening.{is, any-bucket, is-own}
 use Rattle.scope.specs.declared.Report.{Report}
 use Rattle.scope.specs.declared.Found.the-variants.{Listed, Refused}
 use Rattle.scope.specs.Shape.{m, size, listed}
@@ -22,23 +20,23 @@ use Rattle.scope.specs.Walk.{Question, opened, tested}
 use Rattle.scope.specs.Search.{K, nearestSteps, nearest, withinSteps, within}
 use Rattle.scope.specs.Refusals.{Rows, unless}
 use Rattle.scope.specs.Calls.{Asked, report, nearestAnswer, nearestEnd, withinAnswer, withinEnd, searchEnd}
-use Rattle.scope.proofs.Rows.{unless-none}
+use Rattle.scope.proofs.Rows.{unless-none, all-clear}
 use Rattle.demands.specs.Neighbours.{kthDistance}
 use Rattle.demands.specs.Answers.{Reported}
 use Rattle.demands.specs.Radii.{inRadius, candidate}
 use Rattle.demands.specs.Trust.{WithinCall, NearestCall}
-use Rattle.demands.proofs.Sound.{is-own, tested-own}
-use Rattle.demands.proofs.Refusing.{unless-one}
+use Rattle.demands.proofs.Sound.{tested-own}
 use Rattle.demands.proofs.Trusting.{within-ready, nearest-ready}
-use Rattle.demands.proofs.Count.{opened-is, any-bucket, steps-are}
+use Rattle.demands.proofs.Count.{opened-is, steps-are}
 use Rattle.theory.proofs.Elements.{any-more}
 
 -- ---- any tables
 
 listed-report : (rows : Rows) (rep rep′ : Report) → unless rows Refused (Listed rep) ≡ Listed rep′ → rep ≡ rep′
 listed-report rows rep rep′ e =
-    ⊎-elim (λ one. let r = unless-one rows Refused (Listed rep) one in absurd (let z : _≡_ {A = ℕ} 0 1 = cc in omega arith))
-    (λ none. let r = unless-none rows Refused (Listed rep) none in cc) (either (any (λ (row : Bool × Refusal). row .0) rows))
+    let none = all-clear Refused (Listed rep) (λ f e. let z : _≡_ {A = ℕ} 0 1 = cc in omega arith) rows e in
+    let r = unless-none rows Refused (Listed rep) none in
+    cc
 
 pub nearest-reports : (c : Asked) (k : ℕ) (rep : Report) → nearestEnd c k .answer ≡ Listed rep → Reported (c .question) (nearestSteps (c .question) k) rep
 unfolding nearestEnd searchEnd nearestAnswer report tested

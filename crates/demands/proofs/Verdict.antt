@@ -11,7 +11,7 @@ use borrow.Author.Tests.{eq-eqb, ne-eqb, ltb-true, ltb-false, lt-ltb, le-ltb}
 use Rattle.theory.specs.Lists.{any, has}
 use Rattle.theory.proofs.Tests.{either, eq-or-ne, both-ways, or-right, oneIf}
 use Rattle.theory.proofs.Times.{any-times}
-use Rattle.theory.proofs.Order.{Sorted, Before}
+use Rattle.theory.proofs.Order.{Sorted, Before, before-asym}
 use Rattle.scope.specs.declared.Judged.{Judged}
 use Rattle.scope.specs.declared.Judged.the-variants.{Given, Refused}
 use Rattle.scope.specs.declared.Verdict.{Verdict}
@@ -22,12 +22,11 @@ use Rattle.scope.specs.Walk.{Question, distanceOf, opened, openedCount, testedC
 use Rattle.scope.specs.Search.{nearestSteps, nearest}
 use Rattle.scope.specs.Verdict.{verdictOf}
 use Rattle.scope.specs.Calls.{handed, walked, verdictAnswer, verdictEnd}
-use Rattle.scope.proofs.Rows.{unless-none}
+use Rattle.scope.proofs.Rows.{unless-none, unless-past, met-any}
 use Rattle.demands.specs.Neighbours.{everyEntry}
 use Rattle.demands.specs.Trust.{VerdictCall}
 use Rattle.demands.specs.Verdicts.{First, Next, Matched, Undecided, Says}
 use Rattle.demands.proofs.Sound.{none-bad, length-every, nearest-scan}
-use Rattle.demands.proofs.Refusing.{unless-past, met-any}
 use Rattle.demands.proofs.Trusting.{verdict-ready}
 use Rattle.demands.proofs.Listing.{every-exactly}
 use Rattle.theory.proofs.Elements.{all-has}
@@ -115,20 +114,14 @@ module _ (star dist : ℕ → ℕ) (n t g : ℕ) where
 
   -- ---- and one verdict says it
 
-  not-both : (i j : ℕ) → Before dist i j → Before dist j i → ⊥
-  not-both i j (inl a) (inl b) = omega arith
-  not-both i j (inl a) (inr b) = omega arith
-  not-both i j (inr a) (inl b) = omega arith
-  not-both i j (inr a) (inr b) = omega arith
-
   first-one : (i j : ℕ) → First dist n i → First dist n j → i ≡ j
   first-one i j f g′ =
-      ⊎-elim (λ e. e) (λ (ne : i ≡ j → ⊥). absurd (not-both i j (f .before j (g′ .entry) (λ e. ne (sym e))) (g′ .before i (f .entry) ne))) (eq-or-ne i j)
+      ⊎-elim (λ e. e) (λ (ne : i ≡ j → ⊥). absurd (before-asym dist i j (f .before j (g′ .entry) (λ e. ne (sym e))) (g′ .before i (f .entry) ne))) (eq-or-ne i j)
 
   next-one : (i j k : ℕ) → Next dist n i j → Next dist n i k → j ≡ k
   next-one i j k f g′ =
       ⊎-elim (λ e. e)
-      (λ (ne : j ≡ k → ⊥). absurd (not-both j k (f .before k (g′ .entry) (g′ .other) (λ e. ne (sym e))) (g′ .before j (f .entry) (f .other) ne))) (eq-or-ne j k)
+      (λ (ne : j ≡ k → ⊥). absurd (before-asym dist j k (f .before k (g′ .entry) (g′ .other) (λ e. ne (sym e))) (g′ .before j (f .entry) (f .other) ne))) (eq-or-ne j k)
 
   none-match : (s d : ℕ) → Says star dist n t g None → Matched star dist n t g s d → ⊥
   none-match s d a b = let far = a (b .i) (b .nearest .entry) in omega (arith, b .its-distance, b .in-reach)

@@ -17,11 +17,11 @@ use Rattle.scope.specs.Walk.{Question, distanceOf, opened}
 use Rattle.scope.specs.Search.{withinSteps, within}
 use Rattle.scope.specs.Refusals.{tooMany, unless}
 use Rattle.scope.specs.Calls.{Asked, room, handed, walked, report, withinAnswer, withinEnd, searchEnd}
+use Rattle.scope.proofs.Rows.{unless-past, met-any}
 use Rattle.demands.specs.Neighbours.{neighbours}
 use Rattle.demands.specs.Answers.{Exactly, Lists}
 use Rattle.demands.specs.Trust.{WithinCall}
 use Rattle.demands.proofs.Sound.{none-bad, within-scan}
-use Rattle.demands.proofs.Refusing.{unless-past, met-any}
 use Rattle.demands.proofs.Trusting.{within-ready}
 use Rattle.demands.proofs.Listing.{lists, neighbours-exactly}
 

@@ -1,21 +1,15 @@
 -- Writing text into a list. Assumes nothing.
 use mathlib.Core.Path.{_≡_, refl, ap, sym, _∙_}
 use mathlib.Core.List.{List, [], _∷_, _++_, append-assoc}
-use Prim.Native.Nat.{ℕ, suc, _+_, _*_, _≤_, _<_}
-use native.Mathlib.Nat.{add-zero}
+use Prim.Native.Nat.{ℕ, _+_, _*_, _≤_, _<_}
 use native.Mathlib.Numerals.{add-one}
 use native.Mathlib.Omega.{arith}
 use lib.ListN.{length, getD, take, set, length-append, length-set}
 use lib.Seq.{sets, take-suc, take-all}
 use Rattle.theory.specs.Lists.{cat}
+use Rattle.theory.proofs.Lists.{sets-append}
 use Rattle.lines.specs.Lines.{answerLine, answerLines}
 use Rattle.lines.specs.Wrote.{Wrote, Put, Field}
-
-sets-append : (a l : List ℕ) (i : ℕ) (b : List ℕ) → sets (sets l i a) (i + length a) b ≡ sets l i (a ++ b)
-sets-append [] l i b = rw add-zero
-sets-append (x ∷ a) l i b =
-    let e : i + suc (length a) ≡ suc i + length a = omega arith in
-    ap (λ (k : ℕ). sets (sets (set l i x) (suc i) a) k b) e ∙ sets-append a (set l i x) (suc i) b
 
 pub wrote-none : (l : List ℕ) (at : ℕ) → Wrote l at [] l at
 wrote-none l at = record { list = refl; place = omega arith }

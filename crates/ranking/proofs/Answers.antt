@@ -1,6 +1,6 @@
 -- Entries placed one after another, in entry order, become the answers in their order. Assumes nothing.
 use mathlib.Core.Path.{_≡_, refl, sym, ap, ap₂, _∙_}
-use mathlib.Core.Logic.{_⊎_, inl, inr, ⊎-elim}
+use mathlib.Core.Logic.{_⊎_, inl, inr}
 use mathlib.Core.Bool.{Bool, true, false, _&&_, cond}
 use mathlib.Core.List.{List, [], _∷_, _++_, map, map-id}
 use Prim.Native.Nat.{ℕ, zero, suc, _+_, _≤_, _<_}
@@ -8,11 +8,11 @@ use native.Mathlib.Nat.{le-refl, add-zero, zero-add, suc-add}
 use native.Mathlib.Omega.{arith}
 use lib.Dec.{ltb, leb}
 use lib.ListN.{length, getD, set, length-set}
-use lib.Seq.{set-out, getD-set-same, getD-set-other}
+use lib.Seq.{set-out}
 use borrow.Author.Tests.{lt-ltb, le-ltb, le-leb, lt-leb, leb-true, leb-false}
 use Rattle.theory.specs.Lists.{cat, tab, upto, count, ranked, padded}
-use Rattle.theory.proofs.Tests.{lt-or-le, eq-or-ne, both-ways, leb-is-ltb}
-use Rattle.theory.proofs.Lists.{length-tab, getD-tab, tab-cong}
+use Rattle.theory.proofs.Tests.{ltb-suc, lt-or-le, both-ways, leb-is-ltb}
+use Rattle.theory.proofs.Lists.{length-tab, getD-tab, tab-cong, one-more}
 use Rattle.theory.proofs.Counting.{only, count-cong}
 use Rattle.theory.proofs.Placing.{lower, among, placeOf, soFar, lower-suc, put, skip, none-done, all-done, next-up, next-same}
 use Rattle.ranking.specs.Place.{Lists, lists, place, placeEach, Free}
@@ -38,14 +38,6 @@ module _ (dist : ℕ → ℕ) (limit i d : ℕ) (e : d ≡ dist i) (next entries
       ap₂ (lists (set next d (getD next d 0 + 1))) (sym (set-out entries (getD next d 0) i p)) (sym (set-out distances (getD next d 0) d q)) ∙ placed-near h
 
 -- ---- one after another
-
-one-more : (l : List ℕ) (j d : ℕ) → getD (set l j (getD l j 0 + 1)) d 0 ≤ getD l d 0 + 1
-one-more l j d =
-    ⊎-elim
-    (λ (h : j < length l).
-    ⊎-elim (λ (e : d ≡ j). rw e (omega (arith, getD-set-same l j (getD l j 0 + 1) 0 h)))
-    (λ (ne : d ≡ j → ⊥). omega (arith, getD-set-other l j d (getD l j 0 + 1) 0 ne)) (eq-or-ne d j))
-    (λ (g : length l ≤ j). rw (set-out l j (getD l j 0 + 1) g) (omega arith)) (lt-or-le j (length l))
 
 module _ (dist : ℕ → ℕ) (limit : ℕ) where
   pub each-one : (i : ℕ) (l : List ℕ) (a : Lists) → placeEach dist limit (i ∷ l) a ≡ placeEach dist limit l (place dist limit i a)
@@ -88,12 +80,6 @@ free-now P k m a h r = record { all = r .all; listed = refl; measured = r .measu
 
 -- ---- in entry order: as the answers are ordered
 
--- below i + 1 are those below i, and i
-passed : (i x : ℕ) → (x ≡ i → ⊥) → ltb x (suc i) ≡ ltb x i
-passed i x ne =
-    ⊎-elim (λ (l : x < i). lt-ltb x (suc i) (omega arith) ∙ sym (lt-ltb x i l)) (λ (g : i ≤ x). le-ltb x (suc i) (omega arith) ∙ sym (le-ltb x i g))
-    (lt-or-le x i)
-
 -- the entries below i are placed: in each list place p has its answer, if that one is below i, and else 0
 record Placed (n : ℕ) (dist : ℕ → ℕ) (keep : ℕ → Bool) (limit P i : ℕ) (a : Lists) : Type 0 where
   next : a .next ≡ tab (λ d. lower dist keep n d + among dist keep i d) 257
@@ -118,12 +104,12 @@ module _ (n : ℕ) (dist : ℕ → ℕ) (keep : ℕ → Bool) (limit P : ℕ) (s
       so = tab (soFar f (λ _. 0) (ranked dist keep n (limit + 1)) (λ x. ltb x i)) P
 
       pass : (dist i ≤ limit → placeOf n dist keep i < P → ⊥) → so ≡ tab (soFar f (λ _. 0) (ranked dist keep n (limit + 1)) (λ x. ltb x (suc i))) P
-      pass never = skip n dist keep f (λ _. 0) (limit + 1) _ _ i (passed i) P (λ _ _ d p. never (omega arith) p)
+      pass never = skip n dist keep f (λ _. 0) (limit + 1) _ _ i (ltb-suc i) P (λ _ _ d p. never (omega arith) p)
 
       go : (b : Bool) → leb (dist i) limit ≡ b → (placeOf n dist keep i < P) ⊎ (P ≤ placeOf n dist keep i)
           → cond b (set so (placeOf n dist keep i) (f i)) so ≡ tab (soFar f (λ _. 0) (ranked dist keep n (limit + 1)) (λ x. ltb x (suc i))) P
       go true e (inl p) =
-          put n dist keep f (λ _. 0) (limit + 1) _ _ i (passed i) P (lt-ltb i (suc i) (le-refl (suc i))) l k
+          put n dist keep f (λ _. 0) (limit + 1) _ _ i (ltb-suc i) P (lt-ltb i (suc i) (le-refl (suc i))) l k
           (omega (arith, leb-true (dist i) limit e)) p
       go true e (inr p) = set-out so (placeOf n dist keep i) (f i) (rw length-tab p) ∙ pass (λ _ h. omega arith)
       go false e p = pass (λ h _. omega (arith, leb-false (dist i) limit e))
@@ -145,8 +131,8 @@ module _ (n : ℕ) (dist : ℕ → ℕ) (keep : ℕ → Bool) (limit P : ℕ) (s
       go false k =
           record {
             next = r .next ∙ tab-cong _ _ 257 (λ d _. next-same n dist keep i k d);
-            listed = r .listed ∙ skip n dist keep (λ x. x) (λ _. 0) (limit + 1) _ _ i (passed i) P (λ _ y _ _. both-ways (sym y ∙ k));
-            measured = r .measured ∙ skip n dist keep dist (λ _. 0) (limit + 1) _ _ i (passed i) P (λ _ y _ _. both-ways (sym y ∙ k));
+            listed = r .listed ∙ skip n dist keep (λ x. x) (λ _. 0) (limit + 1) _ _ i (ltb-suc i) P (λ _ y _ _. both-ways (sym y ∙ k));
+            measured = r .measured ∙ skip n dist keep dist (λ _. 0) (limit + 1) _ _ i (ltb-suc i) P (λ _ y _ _. both-ways (sym y ∙ k));
           }
 
   module _ (a₀ : Lists) (starts : a₀ .next ≡ tab (lower dist keep n) 257)

@@ -1,6 +1,6 @@
 -- What is known where a record is neither the end nor bad: the session's count, the record's bounds, and what its kind asks. Assumes nothing.
 use mathlib.Core.Path.{_≡_, refl, ap, sym, _∙_}
-use mathlib.Core.Bool.{Bool, true, false, cond, _&&_, _||_}
+use mathlib.Core.Bool.{false, _&&_, _||_}
 use mathlib.Core.List.{List}
 use mathlib.Core.Logic.{_⊎_, inl, inr}
 use Prim.Native.Nat.{ℕ, _+_, _*_, _/_, _%_, _≤_, _<_}
@@ -9,7 +9,7 @@ use lib.Dec.{eqb, leb}
 use lib.ListN.{length, getD, take, drop, length-take, length-drop}
 use lib.Ieee.{binary64, ofBits}
 use borrow.Author.Tests.{leb-false, eqb-true, eqb-false}
-use Rattle.theory.proofs.Tests.{both-ways, or-false-left, or-false-right}
+use Rattle.theory.proofs.Tests.{split, both-ways, or-false-left, or-false-right}
 use Rattle.theory.proofs.Lists.{tab-cong}
 use Rattle.scope.specs.declared.Unit.{Unit}
 use Rattle.reading.specs.Bytes.{numberAt}
@@ -25,11 +25,6 @@ use Rattle.reading.specs.declared.Record.{Record}
 use Rattle.reading.specs.declared.Record.the-variants.{Over, Bad, Head, Entry, Ask}
 use Rattle.reading.proofs.Cases.{whole-is, wanted-is}
 use Rattle.reading.proofs.Cutting.{number-take}
-
--- a choice taken apart
-split : {A P : Type 0} (t : Bool) (x y z : A) → cond t x y ≡ z → (t ≡ true → x ≡ z → P) → (t ≡ false → y ≡ z → P) → P
-split true x y z h f g = f refl h
-split false x y z h f g = g refl h
 
 -- the record is whole
 pub record Going (session : Session) (s : List ℕ) : Type 0 where

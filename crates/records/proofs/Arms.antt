@@ -2,8 +2,7 @@
 use mathlib.Core.Path.{_≡_, refl, ap, sym, _∙_}
 use mathlib.Core.Bool.{Bool, true, false, cond}
 use mathlib.Core.List.{List, [], _∷_, _++_}
-use Prim.Native.Nat.{ℕ, _+_, _*_, _^_, _≤_, _<_}
-use native.Mathlib.Nat.{lt-of-le-of-lt, le-of-lt, mul-le-mul-left, mul-lt-mul-of-pos-right}
+use Prim.Native.Nat.{ℕ, _+_, _≤_}
 use native.Mathlib.Omega.{arith}
 use lib.Dec.{eqb}
 use lib.ListN.{length, take, drop}
@@ -55,10 +54,6 @@ two-most false k e = omega arith
 
 pub index-is : {sh sh′ : Shape} {a a′ b b′ : List ℕ} (c e : List ℕ) → sh ≡ sh′ → a ≡ a′ → b ≡ b′ → index sh a b c e ≡ index sh′ a′ b′ c e
 index-is c e p q r = λ i. index (p i) (q i) (r i) c e
-
--- the product of two numbers of 32 bits fits 64
-pub product-fits : (a b : ℕ) → a < 2 ^ 32 → b < 2 ^ 32 → a * b < 2 ^ 64
-product-fits a b p q = lt-of-le-of-lt (mul-le-mul-left a (le-of-lt q)) (mul-lt-mul-of-pos-right p (omega arith))
 
 -- ---- the answers fit their lists
 

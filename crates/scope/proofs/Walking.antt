@@ -1,7 +1,7 @@
--- Laws of the walk: what one more step opens and tests, that buckets that are not bad list entries, and rows of refusals as a caller of the walk reads them. Assumes nothing.
+-- Laws of the walk: what one more step opens and tests, that buckets that are not bad list entries, and how many answers there are. Assumes nothing.
 use mathlib.Core.Path.{_≡_, refl, sym, ap, _∙_}
 use mathlib.Core.Logic.{⊎-elim}
-use mathlib.Core.Bool.{Bool, true, false, _&&_, _||_, cond}
+use mathlib.Core.Bool.{Bool, true, false, _&&_, _||_}
 use mathlib.Core.List.{List, [], _∷_, _++_}
 use Prim.Native.Nat.{ℕ, zero, suc, _+_, _-_, _*_, _/_, _%_, _≤_, _<_}
 use native.Mathlib.Numerals.{add-one}
@@ -9,16 +9,18 @@ use native.Mathlib.Omega.{arith}
 use lib.Dec.{eqb, ltb, leb}
 use lib.Count.{ones}
 use lib.ListN.{length, length-append, length-map}
-use borrow.Author.Tests.{eqb-true, ltb-false, leb-false}
+use borrow.Author.Tests.{lt-ltb, eqb-true, ltb-false, leb-false}
 use Rattle.theory.specs.Lists.{cat, count, any, has}
 use Rattle.theory.proofs.Tests.{either, both-ways, or-true, or-false-left, or-false-right, leb-is-ltb}
 use Rattle.theory.proofs.Lists.{cat-suc, any-append, any-one, any-none, any-map, any-cat-yes, any-cat-at}
 use Rattle.theory.proofs.Counting.{count-le, count-cong}
-use Rattle.scope.specs.declared.Refusal.{Refusal}
-use Rattle.scope.specs.Shape.{size, m}
+use Rattle.theory.proofs.Placing.{length-ranked}
+use Rattle.scope.specs.Codes.{codeOf}
+use Rattle.scope.specs.Shape.{q, size, m}
 use Rattle.scope.specs.Tables.{Index, n, start, idAt, places, bucket, badId, bad}
 use Rattle.scope.specs.Walk.{Question, distanceOf, opens, opened, tested, near}
-use Rattle.scope.specs.Refusals.{Rows, unless}
+use Rattle.scope.specs.Search.{answers}
+use Rattle.scope.proofs.Codes.{distance-le}
 use Rattle.scope.proofs.Shapes.{Facts, few-buckets}
 
 -- ---- steps
@@ -102,29 +104,15 @@ module _ (x : Index) where
       ⊎-elim (λ here. bucket-entry (b .0) (b .1) i (or-false-left (bad x (b .0) (b .1)) _ h) here)
       (λ later. lists-entry l i (or-false-right (bad x (b .0) (b .1)) _ h) later) (or-true (has i (bucket x (b .0) (b .1))) _ e)
 
--- ---- rows that are known by their outcome, as a function's result tells it
+-- ---- answers
 
-module _ {A : Type 0} (refused : Refusal → A) (answer : A) (apart : (f : Refusal) → refused f ≡ answer → ⊥) where
-  -- they gave the answer: no test holds
-  pub all-clear : (rows : Rows) → unless rows refused answer ≡ answer → any (λ (row : Bool × Refusal). row .0) rows ≡ false
-  unfolding unless any
-  all-clear [] h = refl
-  all-clear (row ∷ rows) h = go (all-clear rows) (row .0) h
-    where
-      go : (unless rows refused answer ≡ answer → any (λ (r : Bool × Refusal). r .0) rows ≡ false)
-          → (t : Bool) → cond t (refused (row .1)) (unless rows refused answer) ≡ answer → (t || any (λ (r : Bool × Refusal). r .0) rows) ≡ false
-      go ih true e = absurd (apart (row .1) e)
-      go ih false e = ih e
+pub few-answers : (ask : Question) (keep : ℕ → Bool) (top : ℕ) → length (answers ask keep top) ≤ n (ask .index)
+few-answers ask keep top =
+    omega (arith, length-ranked (n (ask .index)) (distanceOf ask) keep (top + 1), count-le (λ i. ltb (distanceOf ask i) (top + 1) && keep i) (n (ask .index)))
 
-  -- they refused: they refuse any other answer alike
-  pub one-refuses : ((f g : Refusal) → refused f ≡ refused g → f ≡ g) → {B : Type 0} (refused′ : Refusal → B) (answer′ : B) (rows : Rows) (f : Refusal)
-      → unless rows refused answer ≡ refused f → unless rows refused′ answer′ ≡ refused′ f
-  unfolding unless
-  one-refuses same refused′ answer′ [] f h = absurd (apart f (sym h))
-  one-refuses same refused′ answer′ (row ∷ rows) f h = go (one-refuses same refused′ answer′ rows f) (row .0) h
-    where
-      go : (unless rows refused answer ≡ refused f → unless rows refused′ answer′ ≡ refused′ f)
-          → (t : Bool) → cond t (refused (row .1)) (unless rows refused answer) ≡ refused f
-          → cond t (refused′ (row .1)) (unless rows refused′ answer′) ≡ refused′ f
-      go ih true e = ap refused′ (same (row .1) f e)
-      go ih false e = ih e
+-- every entry is within q of the query: as many answers as kept entries
+pub all-within : (ask : Question) (keep : ℕ → Bool) → length (answers ask keep (q (ask .index .shape))) ≡ count keep (n (ask .index))
+all-within ask keep =
+    length-ranked (n (ask .index)) (distanceOf ask) keep (q (ask .index .shape) + 1)
+    ∙ count-cong _ _ (n (ask .index))
+    (λ i _. ap (λ (b : Bool). b && keep i) (lt-ltb (distanceOf ask i) (q (ask .index .shape) + 1) (omega (arith, distance-le (q (ask .index .shape)) (codeOf (ask .index .shape .w) (ask .index .codes) i) (ask .query)))))

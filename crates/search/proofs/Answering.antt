@@ -1,62 +1,34 @@
 -- From refusals 1 to 5 to the whole of a search. Assumes nothing.
 use mathlib.Core.Path.{_≡_, refl, sym, ap, _∙_}
-use mathlib.Core.Logic.{⊎-elim}
-use mathlib.Core.Bool.{Bool, true, false, cond}
+use mathlib.Core.Bool.{false}
 use mathlib.Core.List.{List, [], _∷_, _++_}
 use Prim.Native.Nat.{ℕ, min, _≤_, _<_}
 use native.Mathlib.Nat.{min-eq-left, min-le-right}
-use native.Mathlib.Omega.{arith}
-use lib.Dec.{eqb}
-use lib.ListN.{length, take, drop, take-append-drop}
-use lib.Seq.{length-take-le}
+use lib.ListN.{length, take, drop}
 use borrow.Author.Tests.{le-ltb, lt-ltb}
-use Rattle.theory.specs.Lists.{any, over, padded}
-use Rattle.theory.proofs.Tests.{either, or-false-left, or-false-right}
-use Rattle.theory.proofs.Lists.{length-padded}
+use Rattle.theory.specs.Lists.{any}
 use Rattle.scope.specs.declared.Refusal.{Refusal}
 use Rattle.scope.specs.declared.Refusal.the-variants.{Room}
 use Rattle.scope.specs.declared.Found.{Found}
 use Rattle.scope.specs.declared.Found.the-variants as found
-use Rattle.scope.specs.Shape.{q}
 use Rattle.scope.specs.Tables.{Index, n}
 use Rattle.scope.specs.Walk.{Question}
 use Rattle.scope.specs.Search.{K, nearestSteps, nearest, withinSteps, within}
-use Rattle.scope.specs.Refusals.{Rows, refusal, unless, oneToFive, fewPlaces, tooMany, markWords, changes, lent}
+use Rattle.scope.specs.Refusals.{Rows, refusal, unless, oneToFive, fewPlaces, tooMany, markWords, changes}
 use Rattle.scope.specs.Calls.{Asked, asked, room, handed, walked, report, SearchEnd, leaves, searchEnd, nearestAnswer, nearestEnd, withinAnswer, withinEnd}
-use Rattle.scope.proofs.Rows.{unless-append, unless-none}
-use Rattle.scope.proofs.Ends.{end-is}
+use Rattle.scope.proofs.Rows.{unless-append, unless-past, no-limit, lent-front}
+use Rattle.scope.proofs.Ends.{unchanged, end-is}
 use Rattle.shapes.specs.declared.Early.the-variants.{Fine, Refused}
 use Rattle.search.specs.Past.{nearestFound, nearestPast, withinFound, withinPast}
-use Rattle.search.proofs.Refusing.{none-fits, one-fits, not-fine}
-use Rattle.search.proofs.Ending.{unchanged, over-all}
+use Rattle.search.proofs.Refusing.{none-fits, one-fits, keeps}
 
 -- ---- refusals 1 to 5 change no list
 
-from-rows : (rows : Rows) (f : Refusal) → any (λ (row : Bool × Refusal). changes (refusal (row .1) .0)) rows ≡ false → unless rows Refused Fine ≡ Refused f
-    → changes (refusal f .0) ≡ false
-unfolding unless any
-from-rows [] f h e = not-fine (sym e)
-from-rows (row ∷ rows) f h e = go (from-rows rows f) (row .0) e
-  where
-    go : (any (λ (r : Bool × Refusal). changes (refusal (r .1) .0)) rows ≡ false → unless rows Refused Fine ≡ Refused f → changes (refusal f .0) ≡ false)
-        → (t : Bool) → cond t (Refused (row .1)) (unless rows Refused Fine) ≡ Refused f → changes (refusal f .0) ≡ false
-    go ih true q = let same : f ≡ row .1 = cc in ap (λ (g : Refusal). changes (refusal g .0)) same ∙ or-false-left (changes (refusal (row .1) .0)) _ h
-    go ih false q = ih (or-false-right (changes (refusal (row .1) .0)) _ h) q
-
 pub early-keeps : (x : Index) (query limits marks : List ℕ) (f : Refusal) → unless (oneToFive x query limits marks) Refused Fine ≡ Refused f → changes (refusal f .0) ≡ false
 unfolding any
-early-keeps x query limits marks f = from-rows (oneToFive x query limits marks) f refl
-
--- a search that is given no limit is given none above q
-pub no-limit : (x : Index) (query marks : List ℕ) → oneToFive x query (0 ∷ []) marks ≡ oneToFive x query [] marks
-unfolding any
-no-limit x query marks = rw (le-ltb (q (x .shape)) 0 (omega arith))
+early-keeps x query limits marks f = keeps (oneToFive x query limits marks) f refl
 
 -- ---- the marks that are needed, and the rest, which stays
-
-over-front : (l marks : List ℕ) (W : ℕ) → length l ≡ W → W ≤ length marks → over l (take W marks) ++ drop W marks ≡ over l marks
-over-front l marks W e h =
-    ap (λ (r : List ℕ). r ++ drop W marks) (over-all l (take W marks) (e ∙ sym (length-take-le W marks h))) ∙ ap (λ (j : ℕ). l ++ drop j marks) (sym e)
 
 module _ (ask : Question) (marks entries distances : List ℕ) where
   abbrev pub words : ℕ
@@ -68,18 +40,11 @@ module _ (ask : Question) (marks entries distances : List ℕ) where
   abbrev whole : Asked
   whole = asked ask marks entries distances
 
-  pub lent-needed : (number : ℕ) → words ≤ length marks → lent number words [] (take words marks) ++ drop words marks ≡ lent number words [] marks
-  unfolding lent
-  lent-needed number h =
-      ⊎-elim
-      (λ (e : changes number ≡ true). rw (e) (over-front (padded words (cond (eqb number 7) [] [])) marks words (length-padded words (cond (eqb number 7) [] [])) h))
-      (λ (e : changes number ≡ false). rw (e) (take-append-drop words marks)) (either (changes number))
-
   widen : (r : Found) (P : ℕ) (l : List ℕ) {o : Found} {m e d : List ℕ} → words ≤ length marks → leaves o m e d ≡ searchEnd needed r P l
       → leaves o (m ++ drop words marks) e d ≡ searchEnd whole r P l
   unfolding searchEnd
   widen r P l h s =
-      end-is (ap (λ (x : SearchEnd). x .answer) s) (ap (λ (x : SearchEnd). x .marks ++ drop words marks) s ∙ lent-needed _ h) (ap (λ (x : SearchEnd). x .entries) s) (ap (λ (x : SearchEnd). x .distances) s)
+      end-is (ap (λ (x : SearchEnd). x .answer) s) (ap (λ (x : SearchEnd). x .marks ++ drop words marks) s ∙ lent-front _ words [] marks h) (ap (λ (x : SearchEnd). x .entries) s) (ap (λ (x : SearchEnd). x .distances) s)
 
   -- ---- nearest
 
@@ -107,8 +72,7 @@ module _ (ask : Question) (marks entries distances : List ℕ) where
       past-five : nearestAnswer whole k ≡ unless rest found.Refused (found.Listed (report ask (nearestSteps ask k) (nearest ask k)))
       unfolding nearestAnswer rest
       past-five =
-          unless-append (handed ask [] marks) rest found.Refused _
-          ∙ unless-none (handed ask [] marks) found.Refused _ (none-fits (handed ask [] marks) (rw no-limit at fine))
+          unless-past (handed ask [] marks) rest found.Refused _ (none-fits (handed ask [] marks) (rw no-limit at fine))
 
       pub nearest-few : room whole < K (ask .index) k → leaves (found.Refused Room) marks entries distances ≡ nearestEnd whole k
       unfolding nearestEnd rest unless
@@ -141,8 +105,5 @@ module _ (ask : Question) (marks entries distances : List ℕ) where
         → {o : Found} {m e d : List ℕ} → leaves o m e d ≡ withinPast needed r → leaves o (m ++ drop words marks) e d ≡ withinEnd whole r
     unfolding withinEnd withinAnswer withinPast withinFound then
     within-whole fine w s =
-        rw (
-          unless-append (handed ask (r ∷ []) marks) then found.Refused (found.Listed (report ask (withinSteps (ask .index) r) (within ask r))),
-          unless-none (handed ask (r ∷ []) marks) found.Refused (unless then found.Refused (found.Listed (report ask (withinSteps (ask .index) r) (within ask r)))) (none-fits (handed ask (r ∷ []) marks) fine),
-        )
+        rw (unless-past (handed ask (r ∷ []) marks) then found.Refused (found.Listed (report ask (withinSteps (ask .index) r) (within ask r))) (none-fits (handed ask (r ∷ []) marks) fine))
         (widen (withinFound whole r) (min (n (ask .index)) (room whole)) (within ask r) w s)

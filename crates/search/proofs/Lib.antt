@@ -1,6 +1,5 @@
 -- Laws behind the searches.
 pub mod Refusing
-pub mod Ending
 pub mod Listing
 pub mod Answering
 pub mod Judging

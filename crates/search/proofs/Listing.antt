@@ -1,44 +1,43 @@
 -- What the searches list once the walk has ended. Assumes nothing.
 use mathlib.Core.Path.{_≡_, refl, sym, ap, ap₂, _∙_}
 use mathlib.Core.Logic.{⊎-elim}
-use mathlib.Core.Bool.{Bool, true, false, _&&_}
+use mathlib.Core.Bool.{Bool, true, false, _&&_, cond}
 use mathlib.Core.List.{List, [], _∷_, map}
-use Prim.Native.Nat.{ℕ, zero, suc, min, _+_, _*_, _≤_, _<_}
+use Prim.Native.Nat.{ℕ, min, _+_, _*_, _≤_, _<_}
 use native.Mathlib.Nat.{min-eq-left}
 use native.Mathlib.Omega.{arith}
 use lib.Dec.{eqb, ltb}
 use lib.ListN.{length, take, length-take, List·getD-eq-default}
 use borrow.Author.Tests.{lt-ltb, le-ltb, ne-eqb}
-use Rattle.theory.specs.Lists.{tab, count, over, padded, ranked}
+use Rattle.theory.specs.Lists.{tab, count, over, padded}
 use Rattle.theory.proofs.Tests.{lt-or-le, eq-or-ne}
-use Rattle.theory.proofs.Lists.{cat-cong, length-padded, length-over}
-use Rattle.theory.proofs.Counting.{upto-cong, count-zero, count-le, count-cong}
+use Rattle.theory.proofs.Lists.{length-padded, padded-take, length-over, over-padded, map-take}
+use Rattle.theory.proofs.Counting.{count-never, count-le, count-cong}
+use Rattle.theory.proofs.Order.{ranked-cong}
 use Rattle.theory.proofs.Placing.{length-ranked}
 use Rattle.scope.specs.declared.Refusal.{Refusal}
-use Rattle.scope.specs.declared.Refusal.the-variants.{TooMany}
+use Rattle.scope.specs.declared.Refusal.the-variants.{TooMany, BadBucket}
 use Rattle.scope.specs.declared.Tested.{Tested}
 use Rattle.scope.specs.declared.Found.{Found}
 use Rattle.scope.specs.declared.Found.the-variants as found
-use Rattle.scope.specs.Codes.{codeOf}
 use Rattle.scope.specs.Shape.{q}
-use Rattle.scope.specs.Tables.{n}
+use Rattle.scope.specs.Tables.{Index, n, bad}
 use Rattle.scope.specs.Walk.{Question, distanceOf, opened, tested}
 use Rattle.scope.specs.Search.{K, nearestSteps, answers, nearest, withinSteps, within}
-use Rattle.scope.specs.Refusals.{ofFound, changes, met, tooMany, unless, markWords}
+use Rattle.scope.specs.Refusals.{refusal, ofFound, changes, met, tooMany, unless, markWords}
 use Rattle.scope.specs.Calls.{asked, report, SearchEnd, leaves, searchEnd}
 use Rattle.scope.proofs.Rows.{unless-append, unless-none}
 use Rattle.scope.proofs.Shapes.{facts}
-use Rattle.scope.proofs.Ends.{end-is}
+use Rattle.scope.proofs.Ends.{written, wiped, end-is}
 use Rattle.codes.specs.Marks.{isMarked}
-use Rattle.codes.proofs.Codes.{distance-le}
+use Rattle.scope.proofs.Walking.{all-within}
 use Rattle.codes.proofs.Marks.{isMarked-zero, isMarked-clear}
 use Rattle.ranking.specs.Rank.{Rankable}
 use Rattle.walk.specs.declared.Met.the-variants as walk
 use Rattle.walk.specs.declared.Walk.{Walk}
 use Rattle.walk.specs.Steps.{Asked, metIn, Fresh, Ended, Walked}
-use Rattle.walk.proofs.Opening.{walk-clear, walk-refused}
+use Rattle.walk.proofs.Opening.{not-both, walk-clear, walk-refused}
 use Rattle.search.specs.Past.{nearestFound, nearestPast, withinFound, withinPast}
-use Rattle.search.proofs.Ending.{wiped-all, padded-take, written, wiped, seven}
 
 -- ---- before the walk: marks cleared, a tally of zeros
 
@@ -82,21 +81,16 @@ near-few ask N w marks tally e = omega (arith, e .near, count-le (λ i. ltb (dis
 
 -- ---- lists of answers
 
-pub ranked-cong : (key : ℕ → ℕ) (keep keep′ : ℕ → Bool) (m top : ℕ) → ((i : ℕ) → keep i ≡ keep′ i) → ranked key keep m top ≡ ranked key keep′ m top
-unfolding ranked
-ranked-cong key keep keep′ m top h = cat-cong _ _ top (λ d _. upto-cong _ _ m (λ i _. ap (λ (b : Bool). eqb (key i) d && b) (h i)))
-
-map-take : (f : ℕ → ℕ) (k : ℕ) (l : List ℕ) → map f (take k l) ≡ take k (map f l)
-map-take f zero l = refl
-map-take f (suc k) [] = refl
-map-take f (suc k) (x ∷ l) = ap (λ (r : List ℕ). f x ∷ r) (map-take f k l)
-
--- every entry is within q of the query: as many answers as kept entries
-pub all-within : (ask : Question) (keep : ℕ → Bool) → length (answers ask keep (q (ask .index .shape))) ≡ count keep (n (ask .index))
-all-within ask keep =
-    length-ranked (n (ask .index)) (distanceOf ask) keep (q (ask .index .shape) + 1)
-    ∙ count-cong _ _ (n (ask .index))
-    (λ i _. ap (λ (b : Bool). b && keep i) (lt-ltb (distanceOf ask i) (q (ask .index .shape) + 1) (omega (arith, distance-le (q (ask .index .shape)) (codeOf (ask .index .shape .w) (ask .index .codes) i) (ask .query)))))
+-- a bad bucket is refusal 7
+pub seven : (x : Index) (l : List (ℕ × ℕ)) (f : Refusal) → metIn x l ≡ walk.Refused f → refusal f .0 ≡ 7
+unfolding metIn unless
+seven x [] f h = not-both (sym h)
+seven x (b ∷ l) f h = go (seven x l f) (bad x (b .0) (b .1)) h
+  where
+    go : (metIn x l ≡ walk.Refused f → refusal f .0 ≡ 7) → (t : Bool)
+        → cond t (walk.Refused (BadBucket (b .0) (b .1))) (metIn x l) ≡ walk.Refused f → refusal f .0 ≡ 7
+    go ih true e = let same : BadBucket (b .0) (b .1) ≡ f = cc in ap (λ (g : Refusal). refusal g .0) (sym same)
+    go ih false e = ih e
 
 -- ---- nearest
 
@@ -109,7 +103,7 @@ module _ (ask : Question) (k : ℕ) (h : k ≤ n (ask .index)) (w : Walk) (marks
   unfolding nearest
   first-k a =
       ap₂ (λ (j : ℕ) (l : List ℕ). take j l) places
-      (ranked-cong (distanceOf ask) (tested ask (nearestSteps ask k)) (isMarked marks) (n (ask .index)) (q (ask .index .shape) + 1) (λ i. sym (a .marked i)))
+      (ranked-cong (distanceOf ask) (tested ask (nearestSteps ask k)) (isMarked marks) (n (ask .index)) (q (ask .index .shape) + 1) (λ i _ _. sym (a .marked i)))
 
   report-is : Ended ask (nearestSteps ask k) w marks tally
       → report ask (nearestSteps ask k) (nearest ask k) ≡ record { answers = min k (w .tested .0); opened = w .opened; tested = w .tested }
@@ -128,7 +122,7 @@ module _ (ask : Question) (k : ℕ) (h : k ≤ n (ask .index)) (w : Walk) (marks
       let l = opened ask (nearestSteps ask k) in
       let m : metIn (ask .index) l ≡ walk.Refused f = sym (walked .met) ∙ e in
       rw (walk-refused found.Refused (found.Listed (report ask (nearestSteps ask k) (nearest ask k))) (met (ask .index) l) f m, places)
-      (wiped (asked ask old entries distances) k (nearest ask k) f (seven (ask .index) l f m) ∙ end-is refl (wiped-all _ old long) refl refl)
+      (wiped (asked ask old entries distances) k (nearest ask k) f (seven (ask .index) l f m) ∙ end-is refl (over-padded _ [] old long) refl refl)
 
   pub nearest-listed : w .met ≡ walk.Clear
       → nearestPast (asked ask old entries distances) k
@@ -141,14 +135,14 @@ module _ (ask : Question) (k : ℕ) (h : k ≤ n (ask .index)) (w : Walk) (marks
       let a = walked .clear e in
       rw (unless-none (met (ask .index) l) found.Refused (found.Listed (report ask (nearestSteps ask k) (nearest ask k))) (walk-clear (met (ask .index) l) (sym (walked .met) ∙ e)), places)
       (written (asked ask old entries distances) k (nearest ask k) (found.Listed (report ask (nearestSteps ask k) (nearest ask k))) refl refl
-      ∙ end-is (ap found.Listed (report-is a)) (wiped-all _ old long)
+      ∙ end-is (ap found.Listed (report-is a)) (over-padded _ [] old long)
       (ap (λ (r : List ℕ). over r entries) (ap (padded k) (first-k a) ∙ padded-take k _))
       (ap (λ (r : List ℕ). over r distances) (ap (λ (r : List ℕ). padded k (map (distanceOf ask) r)) (first-k a) ∙ ap (padded k) (map-take (distanceOf ask) k _) ∙ padded-take k _)))
 
 -- ---- within
 
 no-entries : (m : ℕ) → m ≡ 0 → (p : ℕ → Bool) → count p m ≡ 0
-no-entries m e p = ap (count p) e ∙ count-zero p
+no-entries m e p = count-never p m (λ i l. absurd (omega arith))
 
 module _ (ask : Question) (r : ℕ) (w : Walk) (marks tally : List ℕ) (walked : Walked ask (withinSteps (ask .index) r) w marks tally) where
   abbrev N : ℕ
@@ -156,7 +150,7 @@ module _ (ask : Question) (r : ℕ) (w : Walk) (marks tally : List ℕ) (walked 
 
   all : Ended ask N w marks tally → within ask r ≡ answers ask (isMarked marks) r
   unfolding within
-  all a = ranked-cong (distanceOf ask) (tested ask N) (isMarked marks) (n (ask .index)) (r + 1) (λ i. sym (a .marked i))
+  all a = ranked-cong (distanceOf ask) (tested ask N) (isMarked marks) (n (ask .index)) (r + 1) (λ i _ _. sym (a .marked i))
 
   -- T is what the walk counted as near
   near-is : Ended ask N w marks tally → length (within ask r) ≡ w .near
@@ -194,7 +188,7 @@ module _ (ask : Question) (r : ℕ) (w : Walk) (marks tally : List ℕ) (walked 
         → searchEnd (asked ask old entries distances) o P (within ask r) ≡ listed o
     lists-are e o h k =
         written (asked ask old entries distances) P (within ask r) o h k
-        ∙ end-is refl (wiped-all _ old long) (ap (λ (l : List ℕ). over (padded P l) entries) (all (walked .clear e)))
+        ∙ end-is refl (over-padded _ [] old long) (ap (λ (l : List ℕ). over (padded P l) entries) (all (walked .clear e)))
         (ap (λ (l : List ℕ). over (padded P (map (distanceOf ask) l)) distances) (all (walked .clear e)))
 
     pub within-refused : (f : Refusal) → w .met ≡ walk.Refused f
@@ -210,7 +204,7 @@ module _ (ask : Question) (r : ℕ) (w : Walk) (marks tally : List ℕ) (walked 
           unless-append (met (ask .index) l) (tooMany (length (within ask r)) room) found.Refused (found.Listed (report ask N (within ask r))),
           walk-refused found.Refused (unless (tooMany (length (within ask r)) room) found.Refused (found.Listed (report ask N (within ask r)))) (met (ask .index) l) f m,
         )
-        (wiped (asked ask old entries distances) P (within ask r) f (seven (ask .index) l f m) ∙ end-is refl (wiped-all _ old long) refl refl)
+        (wiped (asked ask old entries distances) P (within ask r) f (seven (ask .index) l f m) ∙ end-is refl (over-padded _ [] old long) refl refl)
 
     pub within-many : w .met ≡ walk.Clear → room < w .near → withinPast (asked ask old entries distances) r ≡ listed (found.Refused (TooMany (w .near)))
     unfolding withinPast unless

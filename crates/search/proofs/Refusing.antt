@@ -2,7 +2,7 @@
 use mathlib.Core.Path.{_≡_, sym, _∙_}
 use mathlib.Core.Bool.{Bool, false, not}
 use mathlib.Core.List.{List, _++_}
-use Prim.Native.Nat.{ℕ, _≤_, _*_}
+use Prim.Native.Nat.{ℕ, _≤_}
 use native.Mathlib.Omega.{arith}
 use lib.Dec.{eqb, ltb}
 use lib.ListN.{length}
@@ -11,12 +11,11 @@ use Rattle.theory.specs.Lists.{any}
 use Rattle.theory.proofs.Lists.{any-append}
 use Rattle.theory.proofs.Tests.{or-false-left, or-false-right}
 use Rattle.scope.specs.declared.Refusal.{Refusal}
-use Rattle.scope.specs.Shape.{q, listed, m, startsBefore}
+use Rattle.scope.specs.Shape.{q}
 use Rattle.scope.specs.Tables.{Index, n}
 use Rattle.scope.specs.Walk.{Question}
-use Rattle.scope.specs.Refusals.{Rows, unless, oneToThree, wrongQuery, above, fewMarks, oneToFive, markWords}
-use Rattle.scope.proofs.Rows.{unless-append, unless-none}
-use Rattle.scope.proofs.Walking.{all-clear, one-refuses}
+use Rattle.scope.specs.Refusals.{Rows, refusal, changes, unless, oneToThree, wrongQuery, above, fewMarks, oneToFive, markWords}
+use Rattle.scope.proofs.Rows.{oneFits, unless-append, unless-past, all-clear, one-refuses, not-refused, fits}
 use Rattle.shapes.specs.declared.Early.{Early}
 use Rattle.shapes.specs.declared.Early.the-variants.{Fine, Refused}
 use Rattle.walk.specs.Steps.{Lent, Asked}
@@ -32,11 +31,16 @@ fine-apart f e = not-fine e
 refused-same : (f g : Refusal) → Refused f ≡ Refused g → f ≡ g
 refused-same f g e = cc
 
-pub none-fits : (rows : Rows) → unless rows Refused Fine ≡ Fine → any (λ (row : Bool × Refusal). row .0) rows ≡ false
+pub none-fits : (rows : Rows) → unless rows Refused Fine ≡ Fine → oneFits rows ≡ false
 none-fits = all-clear Refused Fine fine-apart
 
 pub one-fits : {A : Type 0} (refused : Refusal → A) (answer : A) (rows : Rows) (f : Refusal) → unless rows Refused Fine ≡ Refused f → unless rows refused answer ≡ refused f
-one-fits = one-refuses Refused Fine fine-apart refused-same
+one-fits refused answer rows f h = one-refuses Refused Fine fine-apart refused-same rows f h refused answer
+
+-- refusals that change no list
+pub keeps : (rows : Rows) (f : Refusal) → any (λ (row : Bool × Refusal). changes (refusal (row .1) .0)) rows ≡ false → unless rows Refused Fine ≡ Refused f
+    → changes (refusal f .0) ≡ false
+keeps rows f k h = not-refused Refused Fine fine-apart refused-same rows f h (λ g. changes (refusal g .0)) k
 
 -- ---- refusals 1 to 3, and then 4 and 5
 
@@ -50,28 +54,16 @@ module _ (x : Index) (query limits marks : List ℕ) (e : Early) (h : e ≡ unle
 
   pub refused-next : e ≡ Fine → unless (oneToFive x query limits marks) Refused Fine ≡ unless (fourAndFive x query limits marks) Refused Fine
   refused-next r =
-      unless-append (oneToThree x) (fourAndFive x query limits marks) Refused Fine ∙ unless-none (oneToThree x) Refused _ (none-fits (oneToThree x) (sym h ∙ r))
+      unless-past (oneToThree x) (fourAndFive x query limits marks) Refused Fine (none-fits (oneToThree x) (sym h ∙ r))
 
 -- ---- what holds then
 
-pub lent : (x : Index) → any (λ (row : Bool × Refusal). row .0) (oneToThree x) ≡ false → Lent x
-unfolding any
-lent x h =
-    let two = or-false-right (not (listed (x .shape))) _ h in
-    let codes = or-false-right (ltb 65536 (n x)) _ two in
-    let three = or-false-right (not (eqb (length (x .codes)) (n x * x .shape .w))) _ codes in
-    let ids = or-false-right (ltb (length (x .starts)) (startsBefore (x .shape) (m (x .shape)))) _ three in
-    record {
-      known = not-false (listed (x .shape)) (or-false-left _ _ h);
-      few = ltb-false 65536 (n x) (or-false-left _ _ two);
-      codes = eqb-true _ _ (not-false (eqb (length (x .codes)) (n x * x .shape .w)) (or-false-left _ _ codes));
-      starts = ltb-false _ _ (or-false-left _ _ three);
-      ids = ltb-false _ _ (or-false-left _ _ ids);
-    }
+pub lent : (x : Index) → oneFits (oneToThree x) ≡ false → Lent x
+lent x h = let f = fits x h in record { known = f .shape; few = f .few; codes = f .whole; starts = f .starts; ids = f .ids }
 
 -- none of 1 to 5 fits, but for the answer lists
 pub record Fit (ask : Question) (limits marks : List ℕ) : Type 0 where
-  pub none : any (λ (row : Bool × Refusal). row .0) (oneToFive (ask .index) (ask .query) limits marks) ≡ false
+  pub none : oneFits (oneToFive (ask .index) (ask .query) limits marks) ≡ false
   pub asked : Asked ask
   pub limited : any (λ r. ltb (q (ask .index .shape)) r) limits ≡ false
   pub room : markWords (n (ask .index)) ≤ length marks
@@ -82,12 +74,12 @@ fit ask limits marks h =
     let x = ask .index in
     let none = none-fits (oneToFive x (ask .query) limits marks) h in
     let both = sym (any-append (λ (row : Bool × Refusal). row .0) (oneToThree x) (fourAndFive x (ask .query) limits marks)) ∙ none in
-    let four = or-false-right (any (λ (row : Bool × Refusal). row .0) (oneToThree x)) _ both in
+    let four = or-false-right (oneFits (oneToThree x)) _ both in
     let five = or-false-right (not (eqb (length (ask .query)) (x .shape .w))) _ four in
     record {
       none = none;
       asked = record {
-        lent = lent x (or-false-left (any (λ (row : Bool × Refusal). row .0) (oneToThree x)) _ both);
+        lent = lent x (or-false-left (oneFits (oneToThree x)) _ both);
         query = eqb-true _ _ (not-false (eqb (length (ask .query)) (x .shape .w)) (or-false-left _ _ four));
       };
       limited = or-false-left (any (λ r. ltb (q (x .shape)) r) limits) _ five;

@@ -1,21 +1,18 @@
 -- From the nearest two, in lists of the verdict's own, to the verdict. Assumes nothing.
-use mathlib.Core.Path.{_≡_, refl, sym, ap, _∙_}
-use mathlib.Core.Logic.{_⊎_, inl, inr, ⊎-elim}
-use mathlib.Core.Bool.{Bool, true, false, _||_, cond}
+use mathlib.Core.Path.{_≡_, sym, ap, _∙_}
+use mathlib.Core.Logic.{⊎-elim}
+use mathlib.Core.Bool.{false}
 use mathlib.Core.List.{List, [], _∷_, _++_, map}
-use Prim.Native.Nat.{ℕ, zero, suc, max, _+_, _≤_, _<_}
+use Prim.Native.Nat.{ℕ, max, _+_, _≤_, _<_}
 use native.Mathlib.Nat.{min-le-left}
 use native.Mathlib.Omega.{arith}
-use lib.Dec.{ltb}
-use lib.ListN.{length, getD, take, drop, length-take, List·getD-append}
+use lib.ListN.{length, getD, take, drop, length-take}
 use lib.Seq.{ext-getD, getD-take, length-take-le}
-use borrow.Author.Tests.{lt-ltb, le-ltb}
-use Rattle.theory.specs.Lists.{any, over, padded}
+use Rattle.theory.specs.Lists.{over, padded}
 use Rattle.theory.proofs.Tests.{lt-or-le}
-use Rattle.theory.proofs.Lists.{getD-tab, length-padded, length-over}
+use Rattle.theory.proofs.Lists.{length-padded, length-over, over-at, getD-map}
 use Rattle.theory.proofs.Placing.{Here, here, length-ranked, place-key}
 use Rattle.scope.specs.declared.Refusal.{Refusal}
-use Rattle.scope.specs.declared.Refusal.the-variants.{Query}
 use Rattle.scope.specs.declared.Report.{Report}
 use Rattle.scope.specs.declared.Verdict.{Verdict}
 use Rattle.scope.specs.declared.Found.{Found}
@@ -23,54 +20,24 @@ use Rattle.scope.specs.declared.Found.the-variants as found
 use Rattle.scope.specs.declared.Judged.{Judged}
 use Rattle.scope.specs.declared.Judged.the-variants as judged
 use Rattle.scope.specs.Shape.{q}
-use Rattle.scope.specs.Tables.{Index, n}
+use Rattle.scope.specs.Tables.{n}
 use Rattle.scope.specs.Walk.{Question, distanceOf, tested}
 use Rattle.scope.specs.Search.{K, nearestSteps, answers, nearest}
 use Rattle.scope.specs.Verdict.{verdictOf}
-use Rattle.scope.specs.Refusals.{Rows, ofFound, unless, oneToThree, wrongQuery, fewMarks, oneToFive, markWords, lent}
+use Rattle.scope.specs.Refusals.{ofFound, unless, oneToFive, markWords, lent}
 use Rattle.scope.specs.Calls.{Asked, asked, handed, walked, report, SearchEnd, leaves, searchEnd, judges, verdictAnswer, verdictEnd}
-use Rattle.scope.proofs.Rows.{unless-append, unless-none}
-use Rattle.scope.proofs.Walking.{all-clear, one-refuses}
+use Rattle.scope.proofs.Rows.{oneFits, unless-append, unless-none, all-clear, one-refuses, two-limits, lent-front}
 use Rattle.shapes.specs.declared.Early.the-variants.{Fine, Refused}
 use Rattle.search.specs.Judge.{FirstTwo}
 use Rattle.search.specs.Past.{nearestFound, nearestPast}
 use Rattle.search.proofs.Refusing.{none-fits, one-fits}
-use Rattle.search.proofs.Answering.{early-keeps, lent-needed, same-k}
-
--- the larger of t and g is above q exactly when one of them is
-pub two-limits : (x : Index) (query marks : List ℕ) (t g : ℕ) → oneToFive x query (max t g ∷ []) marks ≡ oneToFive x query (t ∷ g ∷ []) marks
-unfolding any
-two-limits x query marks t g =
-    ap (λ (b : Bool). oneToThree x ++ wrongQuery (x .shape) query ++ (b, Query) ∷ fewMarks x marks) (go (lt-or-le (q (x .shape)) t) (lt-or-le (q (x .shape)) g))
-  where
-    go : (q (x .shape) < t) ⊎ (t ≤ q (x .shape)) → (q (x .shape) < g) ⊎ (g ≤ q (x .shape))
-        → (ltb (q (x .shape)) (max t g) || false) ≡ (ltb (q (x .shape)) t || (ltb (q (x .shape)) g || false))
-    go (inl a) b = rw (lt-ltb (q (x .shape)) t a, lt-ltb (q (x .shape)) (max t g) (omega arith))
-    go (inr a) (inl b) = rw (le-ltb (q (x .shape)) t a, lt-ltb (q (x .shape)) g b, lt-ltb (q (x .shape)) (max t g) (omega arith))
-    go (inr a) (inr b) = rw (le-ltb (q (x .shape)) t a, le-ltb (q (x .shape)) g b, le-ltb (q (x .shape)) (max t g) (omega arith))
+use Rattle.search.proofs.Answering.{early-keeps, same-k}
 
 listed-apart : (r : Report) (f : Refusal) → found.Refused f ≡ found.Listed r → ⊥
 listed-apart r f e = let y : _≡_ {A = ℕ} 0 1 = cc in omega arith
 
 refused-same : (f g : Refusal) → found.Refused f ≡ found.Refused g → f ≡ g
 refused-same f g e = cc
-
-outcome : (rows : Rows) (r : Report)
-    → (unless rows found.Refused (found.Listed r) ≡ found.Listed r) ⊎ ((f : Refusal) × (unless rows found.Refused (found.Listed r) ≡ found.Refused f))
-unfolding unless
-outcome [] r = inl refl
-outcome (row ∷ rows) r = go (row .0) (outcome rows r)
-  where
-    go : (t : Bool) → (unless rows found.Refused (found.Listed r) ≡ found.Listed r) ⊎ ((f : Refusal) × (unless rows found.Refused (found.Listed r) ≡ found.Refused f))
-        → (cond t (found.Refused (row .1)) (unless rows found.Refused (found.Listed r)) ≡ found.Listed r)
-        ⊎ ((f : Refusal) × (cond t (found.Refused (row .1)) (unless rows found.Refused (found.Listed r)) ≡ found.Refused f))
-    go true ih = inr (row .1, refl)
-    go false ih = ih
-
-mapped : (f : ℕ → ℕ) (r : List ℕ) (p : ℕ) → p < length r → getD (map f r) p 0 ≡ f (getD r p 0)
-mapped f [] p b = absurd (omega arith)
-mapped f (x ∷ r) zero b = refl
-mapped f (x ∷ r) (suc p) b = mapped f r p (omega arith)
 
 -- ---- refused before the walk
 
@@ -104,10 +71,6 @@ module _ (ask : Question) (marks : List ℕ) (t g : ℕ) where
 
   -- ---- after the search of the nearest two
 
-  front : (r : List ℕ) (p : ℕ) → p < K (ask .index) 2 → getD (over (padded (K (ask .index) 2) r) (0 ∷ 0 ∷ [])) p 0 ≡ getD r p 0
-  front r p h =
-      List·getD-append (padded (K (ask .index) 2) r) _ 0 p (rw length-padded h) ∙ getD-tab (λ i. getD r i 0) 0 (K (ask .index) 2) p h
-
   abbrev words : ℕ
   words = markWords (n (ask .index))
 
@@ -134,21 +97,19 @@ module _ (ask : Question) (marks : List ℕ) (t g : ℕ) where
 
     marks-are : m ++ drop words marks ≡ lent (ofFound o .0) words [] marks
     unfolding searchEnd
-    marks-are = ap (λ (x : SearchEnd). x .marks ++ drop words marks) end ∙ lent-needed ask marks two two (ofFound o .0) room
+    marks-are = ap (λ (x : SearchEnd). x .marks ++ drop words marks) end ∙ lent-front (ofFound o .0) words [] marks room
 
     pub verdict-refused : (f : Refusal) → o ≡ found.Refused f → judges (judged.Refused f) (m ++ drop words marks) ≡ verdictEnd ask marks t g
     unfolding verdictEnd
     verdict-refused f e =
         let r : verdictAnswer ask marks t g ≡ judged.Refused f =
-        past ∙ one-refuses found.Refused (found.Listed (report ask N l)) (listed-apart (report ask N l)) refused-same judged.Refused given (walked ask N) f (sym found-is ∙ e) in
+        past ∙ one-refuses found.Refused (found.Listed (report ask N l)) (listed-apart (report ask N l)) refused-same (walked ask N) f (sym found-is ∙ e) judged.Refused given in
         rw r (ap (judges (judged.Refused f)) (marks-are ∙ ap (λ (x : Found). lent (ofFound x .0) words [] marks) e))
 
     module _ (rep : Report) (listed : o ≡ found.Listed rep) where
       -- none of the opened buckets was bad
-      none-bad : any (λ (row : Bool × Refusal). row .0) (walked ask N) ≡ false
-      none-bad =
-          ⊎-elim (λ s. all-clear found.Refused (found.Listed (report ask N l)) (listed-apart (report ask N l)) (walked ask N) s)
-          (λ s. absurd (listed-apart rep (s .0) (sym (s .1) ∙ sym found-is ∙ listed))) (outcome (walked ask N) (report ask N l))
+      none-bad : oneFits (walked ask N) ≡ false
+      none-bad = all-clear found.Refused (found.Listed (report ask N l)) (listed-apart rep) (walked ask N) (sym found-is ∙ listed)
 
       report-is : rep ≡ report ask N l
       report-is = let s : found.Listed rep ≡ found.Listed (report ask N l) = sym listed ∙ found-is ∙ unless-none (walked ask N) found.Refused _ none-bad in cc
@@ -191,10 +152,10 @@ module _ (ask : Question) (marks : List ℕ) (t g : ℕ) where
           (here (n (ask .index)) (distanceOf ask) (tested ask N) (q (ask .index .shape) + 1) p (omega arith))
 
       entry-at : (p : ℕ) → p < length l → getD e p 0 ≡ getD l p 0
-      entry-at p b = rw entries-are (front l p (let f = l-few in omega arith))
+      entry-at p b = rw entries-are (over-at (K (ask .index) 2) l two p (let f = l-few in omega arith))
 
       distance-at : (p : ℕ) → p < length l → getD d p 0 ≡ distanceOf ask (getD l p 0)
-      distance-at p b = rw distances-are (front (map (distanceOf ask) l) p (let f = l-few in omega arith) ∙ mapped (distanceOf ask) l p b)
+      distance-at p b = rw distances-are (over-at (K (ask .index) 2) (map (distanceOf ask) l) two p (let f = l-few in omega arith) ∙ getD-map (distanceOf ask) 0 0 l p b)
 
       order : 1 < length l → getD d 0 0 ≤ getD d 1 0
       order b =

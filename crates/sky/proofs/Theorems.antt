@@ -1,7 +1,7 @@
 -- What the sky maker's answer says: its statement fixes it, and the code's bits are the cells that have a star. Assumes nothing.
-use mathlib.Core.Path.{_≡_, refl, sym, ap, ap₂, _∙_}
+use mathlib.Core.Path.{_≡_, sym, ap, ap₂, _∙_}
 use mathlib.Core.Logic.{_⊎_, inl, inr}
-use mathlib.Core.Bool.{Bool, true, false, _||_, or-false}
+use mathlib.Core.Bool.{true, false, _||_, or-false}
 use mathlib.Core.List.{List, [], _∷_, _++_}
 use Prim.Native.Nat.{ℕ, zero, suc, _/_, _%_, _^_, _<_, max}
 use native.Mathlib.Nat.{zero-div, div-eq-of-lt, mod-eq-of-lt}
@@ -11,8 +11,8 @@ use lib.ListN.{length}
 use lib.Ieee.{Float}
 use borrow.Author.Tests.{eqb-true}
 use Rattle.theory.specs.Lists.{cat, tab, any, has}
-use Rattle.theory.proofs.Tests.{either, oneIf}
-use Rattle.theory.proofs.Lists.{tab-suc, has-append, has-one}
+use Rattle.theory.proofs.Tests.{max-is-or, either, oneIf}
+use Rattle.theory.proofs.Lists.{has-suc}
 use Rattle.theory.proofs.Digits.{digit, digit-or, digit-power, same-digits}
 use Rattle.scope.specs.declared.Unit.{Unit}
 use Rattle.scope.specs.declared.Sky.{Sky}
@@ -31,15 +31,6 @@ pub same-answer : (u : Unit) (across up : List Float) {r r′ : Sky} → r ≡ s
 same-answer u across up p q = p ∙ sym q
 
 -- ---- the bits of a code, for any cells
-
-max-is-or : (a b : Bool) → max (oneIf a) (oneIf b) ≡ oneIf (a || b)
-max-is-or true true = refl
-max-is-or true false = refl
-max-is-or false true = refl
-max-is-or false false = refl
-
-has-suc : (cell : ℕ → ℕ) (n j : ℕ) → has j (tab cell (suc n)) ≡ (has j (tab cell n) || eqb j (cell n))
-has-suc cell n j = rw (tab-suc cell n) (has-append j (tab cell n) (cell n ∷ []) ∙ ap (_||_ (has j (tab cell n))) (has-one j (cell n)))
 
 -- bit j is 1 exactly when some star's cell is j
 from-bit : (cell : ℕ → ℕ) (n j : ℕ) → digit (codeFrom cell n) j ≡ oneIf (has j (tab cell n))

@@ -1,4 +1,4 @@
 -- Laws of builder and check as called.
-pub mod Unrefused
+pub mod Answers
 pub mod Parts
 pub mod Theorems

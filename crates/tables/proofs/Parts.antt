@@ -2,26 +2,25 @@
 use mathlib.Core.Path.{_≡_, refl, sym, ap, _∙_}
 use mathlib.Core.Bool.{Bool, true, _&&_}
 use mathlib.Core.List.{List}
-use Prim.Native.Nat.{ℕ, suc, _+_, _-_, _*_, _≤_, _<_}
-use native.Mathlib.Nat.{suc-mul, mul-le-mul-right}
+use Prim.Native.Nat.{ℕ, _+_, _-_, _*_, _≤_, _<_}
+use native.Mathlib.Nat.{mul-le-mul-right}
 use native.Mathlib.Numerals.{add-one}
 use native.Mathlib.Omega.{arith}
 use borrow.Rule.Slice.PartMut.{putMid}
-use lib.ListN.{length, take, drop, length-drop}
-use lib.Seq.{length-take-le}
+use lib.ListN.{length, take, drop}
 use Rattle.theory.specs.Lists.{cat, over, same}
 use Rattle.theory.proofs.Tests.{and-left, and-right}
 use Rattle.theory.proofs.Sums.{sum-grows}
-use Rattle.theory.proofs.Lists.{length-tab, length-over, same-refl, same-true}
-use Rattle.theory.proofs.Parts.{over-next, read-next, read-part}
+use Rattle.theory.proofs.Lists.{length-over, same-refl, same-true}
+use Rattle.theory.proofs.Parts.{in-parts, part-long, over-next, read-next, read-part}
 use Rattle.scope.specs.Shape.{m, size, startsBefore}
-use Rattle.scope.specs.Tables.{Index, n, substringOf, startOf, startsOf, idsOf, builtStarts, builtIds, sound}
+use Rattle.scope.specs.Tables.{Index, n, substringOf, startsOf, idsOf, builtStarts, builtIds, sound}
+use Rattle.scope.proofs.Rows.{Fits}
 use Rattle.scope.proofs.Shapes.{Facts, facts, next-part, in-starts}
-use Rattle.scope.proofs.Bucketing.{substring-small, ids-full, startsIn, idsIn, starts-before, ids-before, sound-starts, sound-ids, is-sound}
+use Rattle.scope.proofs.Bucketing.{startsIn, idsIn, long-starts, long-ids, starts-before, ids-before, sound-starts, sound-ids, is-sound}
 use Rattle.buckets.specs.declared.Table.{Table}
 use Rattle.buckets.specs.Handed as handed
 use Rattle.buckets.specs.Handed.{Handed, sub}
-use Rattle.tables.proofs.Unrefused.{Fits}
 
 -- table z, as its functions are handed it; and what they say of its parts, in scope's words
 abbrev pub table : Index → ℕ → Table
@@ -49,16 +48,6 @@ pub record Turn (x : Index) (S D z from end : ℕ) : Type 0 where
   pub after-starts : length (cat (startsIn x) z) ≡ from
   pub after-ids : length (cat (idsIn x) z) ≡ z * n x
 
-pub long-starts : (x : Index) (z : ℕ) → length (startsIn x z) ≡ size (x .shape) z + 1
-long-starts x z = length-tab (startOf (substringOf x z) (n x)) (size (x .shape) z + 1)
-
-pub long-ids : (x : Index) (z : ℕ) → length (idsIn x z) ≡ n x
-long-ids x z = ids-full (substringOf x z) (n x) (size (x .shape) z) (λ i _. substring-small x z i)
-
--- a part of k numbers from a on has k numbers
-pub part-long : (a k : ℕ) (l : List ℕ) → a + k ≤ length l → length (take k (drop a l)) ≡ k
-part-long a k l h = length-take-le k (drop a l) (simp length-drop (omega arith))
-
 module _ (x : Index) (f : Fits x) where
   g : Facts (x .shape)
   g = facts (x .shape) (f .shape)
@@ -69,11 +58,11 @@ module _ (x : Index) (f : Fits x) where
       let next : end ≡ from + (size (x .shape) z + 1) = b ∙ ap (startsBefore (x .shape)) (add-one z) ∙ next-part (x .shape) g z ∙ ap (λ (k : ℕ). k + (size (x .shape) z + 1)) (sym a) in
       record {
         few-starts = omega (arith, in-starts (x .shape) g z h, g .all-starts);
-        few-ids = let u : suc z ≤ 64 = omega (arith, g .few-tables) in omega (arith, mul-le-mul-right (n x) u, suc-mul z (n x), f .few);
+        few-ids = omega (arith, in-parts z 64 (n x) (omega (arith, g .few-tables)), f .few);
         rising = omega arith;
         wide = omega arith;
         starts-in = omega (arith, in-starts (x .shape) g z h, f .starts);
-        ids-in = omega (arith, mul-le-mul-right (n x) h, suc-mul z (n x), f .ids);
+        ids-in = omega (arith, in-parts z (m (x .shape)) (n x) h, f .ids);
         after-starts = starts-before x g z ∙ sym a;
         after-ids = ids-before x z;
       }

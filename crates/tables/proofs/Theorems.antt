@@ -3,23 +3,23 @@ use mathlib.Core.Path.{_≡_, refl, sym, ap, _∙_}
 use mathlib.Core.Logic.{⊎-elim}
 use mathlib.Core.Bool.{Bool, true, false, cond}
 use mathlib.Core.List.{List}
-use Prim.Native.Nat.{ℕ, _*_, _<_}
+use Prim.Native.Nat.{ℕ, _*_}
 use native.Mathlib.Omega.{arith}
 use lib.ListN.{length}
-use Rattle.theory.specs.Lists.{over}
 use Rattle.theory.proofs.Tests.{either}
 use Rattle.theory.proofs.Lists.{length-over}
 use Rattle.scope.specs.declared.Built.{Built}
 use Rattle.scope.specs.declared.Built.the-variants.{Done, Refused}
 use Rattle.scope.specs.declared.Checked.{Checked}
 use Rattle.scope.specs.declared.Checked.the-variants as checked
-use Rattle.scope.specs.Shape.{m, size, startsBefore}
-use Rattle.scope.specs.Tables.{Index, index, n, substringOf, bucketOf, builtStarts, builtIds, sound, start, bucket, bad}
+use Rattle.scope.specs.Shape.{m, startsBefore}
+use Rattle.scope.specs.Tables.{Index, index, n, builtStarts, builtIds, sound}
 use Rattle.scope.specs.Refusals.{oneToThree, unless}
 use Rattle.scope.specs.Calls.{BuildEnd, builds, buildAnswer, buildEnd, checkAnswer}
+use Rattle.scope.proofs.Rows.{unless-map, Fits, unrefused}
+use Rattle.scope.proofs.Ends.{build-fits, build-done}
 use Rattle.scope.proofs.Shapes.{facts}
-use Rattle.scope.proofs.Bucketing.{rebuilt, built-sound, starts-before, ids-before, bucket-is, not-bad, first-start, last-start}
-use Rattle.tables.proofs.Unrefused.{Fits, fits, unrefused, unless-map, end-done}
+use Rattle.scope.proofs.Bucketing.{rebuilt, built-sound, starts-before, ids-before}
 
 -- ---- any two results that a statement allows are equal, and so are the lists
 
@@ -48,7 +48,7 @@ same-refusals x = unless-map refuses (oneToThree x) checked.Refused (cond (sound
 
 answer-is : (x : Index) → buildAnswer x ≡ Done → checkAnswer x ≡ cond (sound x) checked.Yes checked.No
 unfolding checkAnswer
-answer-is x b = unrefused x (fits x b) checked.Refused (cond (sound x) checked.Yes checked.No)
+answer-is x b = unrefused x (build-fits x b) checked.Refused (cond (sound x) checked.Yes checked.No)
 
 pub sound-yes : (x : Index) → buildAnswer x ≡ Done → sound x ≡ true → checkAnswer x ≡ checked.Yes
 sound-yes x b s = answer-is x b ∙ ap (λ (t : Bool). cond t checked.Yes checked.No) s
@@ -68,7 +68,7 @@ afterBuild x = index (x .shape) (x .stars) (x .codes) (buildEnd x .starts) (buil
 
 after-is : (x : Index) → buildAnswer x ≡ Done → rebuilt x ≡ afterBuild x
 after-is x b =
-    let e = end-done x (over (builtStarts x) (x .starts)) (over (builtIds x) (x .ids)) b refl refl in
+    let e = sym (build-done x b) in
     (λ i. index (x .shape) (x .stars) (x .codes) (e i .starts) (e i .ids))
 
 pub after-sound : (x : Index) → buildAnswer x ≡ Done → sound (afterBuild x) ≡ true
@@ -90,18 +90,7 @@ still-fits x f =
 
 pub after-done : (x : Index) → buildAnswer x ≡ Done → buildAnswer (afterBuild x) ≡ Done
 unfolding buildAnswer
-after-done x b = ap buildAnswer (sym (after-is x b)) ∙ unrefused (rebuilt x) (still-fits x (fits x b)) Refused Done
+after-done x b = ap buildAnswer (sym (after-is x b)) ∙ unrefused (rebuilt x) (still-fits x (build-fits x b)) Refused Done
 
 pub build-check : (x : Index) → buildAnswer x ≡ Done → checkAnswer (afterBuild x) ≡ checked.Yes
 build-check x b = sound-yes (afterBuild x) (after-done x b) (after-sound x b)
-
--- ---- in tables that are sound, and no call on them refused: bucket v of table z
-
-module _ (x : Index) (b : buildAnswer x ≡ Done) (s : sound x ≡ true) (z : ℕ) (h : z < m (x .shape)) where
-  -- it is not bad, and lists exactly the entries whose substring z is v, ascending
-  pub bucket-sound : (v : ℕ) → v < size (x .shape) z → (bad x z v ≡ false) × (bucket x z v ≡ bucketOf (substringOf x z) (n x) v)
-  bucket-sound v l = let f = facts (x .shape) (fits x b .shape) in (not-bad x f s z h v l, bucket-is x f s z h v l)
-
-  -- start(0) = 0, start(2^s) = n
-  pub ends-sound : (start x z 0 ≡ 0) × (start x z (size (x .shape) z) ≡ n x)
-  ends-sound = let f = facts (x .shape) (fits x b .shape) in (first-start x f s z h, last-start x f s z h)

@@ -12,7 +12,7 @@ use lib.ListN.{length, getD, length-append, List·getD-append}
 use lib.Seq.{getD-at}
 use borrow.Author.Tests.{eq-eqb, ne-eqb, lt-ltb, le-ltb}
 use Rattle.theory.specs.Lists.{sum, cat, upto, count, any, has}
-use Rattle.theory.proofs.Tests.{lt-or-le, eq-or-ne, oneIf, oneIf-le}
+use Rattle.theory.proofs.Tests.{lt-or-le, eq-or-ne, ltb-suc, oneIf, oneIf-le}
 use Rattle.theory.proofs.Sums.{sum-cong}
 use Rattle.theory.proofs.Lists.{cat-suc, length-cat, cat-cong, has-append, has-one, has-none}
 
@@ -84,6 +84,9 @@ upto-gap p a (suc b) h f =
     ⊎-elim (λ (l : a < suc b). upto-suc p b ∙ rw (f b (omega arith) (omega arith), append-nil) (upto-gap p a b (omega arith) (λ i x y. f i x (omega arith))))
     (λ (g : suc b ≤ a). let e : suc b ≡ a = omega arith in ap (upto p) e) (lt-or-le a (suc b))
 
+pub count-never : (p : ℕ → Bool) (n : ℕ) → ((i : ℕ) → i < n → p i ≡ false) → count p n ≡ 0
+count-never p n h = ap length (upto-gap p 0 n (omega arith) (λ i _ l. h i l)) ∙ count-zero p
+
 -- ---- which number stands at a place
 
 -- number j passes the test p, is below n, and o smaller numbers pass it
@@ -120,7 +123,7 @@ has-upto p x (suc n) =
     has-append x (upto p n) (only (p n) n) ∙ rw (has-upto p x n)
     (⊎-elim
     (λ (e : x ≡ n). rw (e, le-ltb n n (omega arith), lt-ltb n (suc n) (omega arith)) (here (p n) n))
-    (λ (ne : x ≡ n → ⊥). ap (λ (b : Bool). (ltb x n && p x) || b) (other (p n) ne) ∙ rw or-false (ap (λ (b : Bool). b && p x) (bound ne)))
+    (λ (ne : x ≡ n → ⊥). ap (λ (b : Bool). (ltb x n && p x) || b) (other (p n) ne) ∙ rw or-false (ap (λ (b : Bool). b && p x) (sym (ltb-suc n x ne))))
     (eq-or-ne x n))
   where
     here : (b : Bool) (n : ℕ) → has n (only b n) ≡ b
@@ -130,6 +133,3 @@ has-upto p x (suc n) =
     other : (b : Bool) → (x ≡ n → ⊥) → has x (only b n) ≡ false
     other true ne = has-one x n ∙ ne-eqb x n ne
     other false ne = has-none x
-
-    bound : (x ≡ n → ⊥) → ltb x n ≡ ltb x (suc n)
-    bound ne = ⊎-elim (λ (l : x < n). lt-ltb x n l ∙ sym (lt-ltb x (suc n) (omega arith))) (λ (g : n ≤ x). le-ltb x n g ∙ sym (le-ltb x (suc n) (omega arith))) (lt-or-le x n)

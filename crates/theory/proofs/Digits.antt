@@ -1,5 +1,5 @@
--- The binary digits of a number: of `or`, of `and`, of a power of two; numbers with the same digits are equal. Assumes nothing.
-use mathlib.Core.Path.{_≡_, sym, ap, ap₂, _∙_}
+-- The binary digits of a number: of `or`, of `and`, of a power of two; numbers with the same digits are equal; the lowest digit that is 1. Assumes nothing.
+use mathlib.Core.Path.{_≡_, refl, sym, ap, ap₂, _∙_}
 use mathlib.Core.Logic.{⊎-elim}
 use Prim.Native.Nat.{ℕ, zero, suc, _+_, _-_, _*_, _/_, _%_, _^_, _≤_, _<_, max, min}
 use native.Mathlib.Nat.{div-eq-of-lt, mod-eq-of-lt, max-le, one-mul, mul-mod-left, pow-suc}
@@ -7,6 +7,7 @@ use native.Mathlib.Numerals.{one-add}
 use native.Mathlib.Omega.{arith}
 use lib.Dec.{eqb}
 use lib.Bits.{bitOr, or-shr, or-step, bitAnd, and-shr, and-step}
+use lib.Count.{trailingZeros, under}
 use lib.Pow.{pow-add, pow-lt, pow-mono, shl-shr, shr-shr, low, mod-pow-add}
 use borrow.Author.Tests.{eq-eqb, ne-eqb}
 use Rattle.theory.proofs.Tests.{eq-or-ne, lt-or-le, oneIf}
@@ -66,3 +67,40 @@ same-digits a b h =
   where
     below : (c : ℕ) → c ≤ a + b → c < 2 ^ (a + b)
     below c l = omega (arith, lt-power c, pow-mono l)
+
+-- ---- the lowest digit that is 1
+
+-- digit t is the lowest that is 1 in x, and is not in x - 1; above it the two are alike
+pub record Lowest (x t : ℕ) : Type 0 where
+  pub below : (k : ℕ) → k < t → digit x k ≡ 0
+  pub here : digit x t ≡ 1
+  pub gone : digit (x - 1) t ≡ 0
+  pub above : (k : ℕ) → t < k → digit (x - 1) k ≡ digit x k
+
+pub lowest : (w x : ℕ) → 0 < x → x < 2 ^ w → Lowest x (trailingZeros w x)
+unfolding trailingZeros
+lowest zero x p l = absurd (omega arith)
+lowest (suc w) x p l = go (x % 2) refl (λ e. lowest w (x / 2) (omega arith) (omega (arith, pow-suc 2 w)))
+  where
+    go : (r : ℕ) → x % 2 ≡ r → (x % 2 ≡ 0 → Lowest (x / 2) (trailingZeros w (x / 2))) → Lowest x (under r (trailingZeros w (x / 2)))
+    go zero e ih =
+        let half : (x - 1) / 2 ≡ x / 2 - 1 = omega arith in
+        let less : (k : ℕ) → digit (x - 1) (suc k) ≡ digit (x / 2 - 1) k = λ k. digit-suc (x - 1) k ∙ ap (λ (y : ℕ). digit y k) half in
+        record {
+          below = elim [ zero ↦ λ h. omega arith | suc k ↦ λ h. digit-suc x k ∙ ih e .below k (omega arith) ];
+          here = digit-suc x _ ∙ ih e .here;
+          gone = less _ ∙ ih e .gone;
+          above = elim [ zero ↦ λ h. absurd (omega arith) | suc k ↦ λ h. less k ∙ ih e .above k (omega arith) ∙ sym (digit-suc x k) ];
+        }
+    go (suc r) e ih =
+        let half : (x - 1) / 2 ≡ x / 2 = omega arith in
+        record {
+          below = λ k h. absurd (omega arith);
+          here = omega arith;
+          gone = omega arith;
+          above = elim [ zero ↦ λ h. absurd (omega arith) | suc k ↦ λ h. digit-suc (x - 1) k ∙ ap (λ (y : ℕ). digit y k) half ∙ sym (digit-suc x k) ];
+        }
+
+-- what is left without it is of the number
+pub still-set : (x k : ℕ) → digit (bitAnd x (x - 1)) k ≡ 1 → digit x k ≡ 1
+still-set x k e = omega (arith, digit-and x (x - 1) k)

@@ -14,4 +14,5 @@ pub mod Numbers
 pub mod Xor
 pub mod Masks
 pub mod Pigeon
+pub mod Radii
 pub mod Opening

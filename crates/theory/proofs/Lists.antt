@@ -5,11 +5,12 @@ use mathlib.Core.Bool.{Bool, true, false, _||_, or-false, or-assoc}
 use mathlib.Core.List.{List, [], _∷_, _++_, map, append-assoc, append-nil}
 use Prim.Native.Nat.{ℕ, zero, suc, _+_, _-_, _≤_, _<_}
 use native.Mathlib.Nat.{add-zero, add-suc, eq-or-lt-of-le, le-refl}
+use native.Mathlib.Numerals.{add-one}
 use native.Mathlib.Decide.{le-ind}
 use native.Mathlib.Omega.{arith}
 use lib.Dec.{eqb}
-use lib.ListN.{length, getD, take, drop, set, replicate, length-append, length-drop, length-set, length-replicate, getD-replicate, List·getD-append}
-use lib.Seq.{ext-getD, getD-at, take-at, drop-at, getD-set-same, getD-set-other}
+use lib.ListN.{length, getD, take, drop, set, length-append, length-drop, length-set, drop-of-length-le, List·getD-append}
+use lib.Seq.{ext-getD, getD-at, getD-take, take-at, drop-at, length-take-le, sets, set-out, getD-set-same, getD-set-other}
 use borrow.Author.Tests.{eqb-true, eq-eqb}
 use Rattle.theory.specs.Lists.{sum, firstFrom, cat, tab, any, over, between, has, same, padded}
 use Rattle.theory.proofs.Tests.{either, lt-or-le, both-ways, eq-or-ne, or-true, or-left, or-right, and-left, and-right}
@@ -41,6 +42,24 @@ pub first-ge : (p : ℕ → Bool) (i n : ℕ) → i ≤ firstFrom p i n
 unfolding firstFrom
 first-ge p i zero = le-refl i
 first-ge p i (suc n) = ⊎-elim (λ (e : p i ≡ true). rw e (le-refl i)) (λ (e : p i ≡ false). rw e (omega (arith, first-ge p (suc i) n))) (either (p i))
+
+-- none before R passes: it is no earlier than R
+pub first-past : (p : ℕ → Bool) (n i R : ℕ) → R ≤ i + n → ((j : ℕ) → i ≤ j → j < R → p j ≡ false) → R ≤ firstFrom p i n
+unfolding firstFrom
+first-past p zero i R h f = omega arith
+first-past p (suc n) i R h f =
+    ⊎-elim (λ (l : i < R). later l (first-past p n (suc i) R (omega arith) (λ j a b. f j (omega arith) b)))
+    (λ (g : R ≤ i). omega (arith, first-ge p i (suc n))) (lt-or-le i R)
+  where
+    later : i < R → R ≤ firstFrom p (suc i) n → R ≤ firstFrom p i (suc n)
+    later l b = rw (f i (le-refl i) l) b
+
+-- a test that says of each number what another says of the number before it
+pub first-shift : (p u : ℕ → Bool) → ((j : ℕ) → p (suc j) ≡ u j) → (n i : ℕ) → firstFrom p (suc i) n ≡ firstFrom u i n + 1
+unfolding firstFrom
+first-shift p u h zero i = sym (add-one i)
+first-shift p u h (suc n) i =
+    ⊎-elim (λ (e : u i ≡ true). rw (h i, e) (sym (add-one i))) (λ (e : u i ≡ false). rw (h i, e) (first-shift p u h n (suc i))) (either (u i))
 
 -- a second test that says the same up to there is passed first at the same number
 pub first-same : (p u : ℕ → Bool) (i n : ℕ) → ((j : ℕ) → j ≤ firstFrom p i n → u j ≡ p j) → firstFrom u i n ≡ firstFrom p i n
@@ -91,6 +110,23 @@ module _ {A : Type 0} where
       let e : m ≡ z + (m - z) = omega arith in
       (cat (λ i. f (z + i)) (m - z), ap (cat f) e ∙ cat-split f z (m - z))
 
+  pub cat-none : (f : ℕ → List A) (n : ℕ) → ((i : ℕ) → i < n → f i ≡ []) → cat f n ≡ []
+  unfolding cat
+  cat-none f zero h = refl
+  cat-none f (suc n) h = rw (cat-none f n (λ i l. h i (omega arith)), h n (omega arith))
+
+  -- part t is the first that is not empty, and g is without it
+  pub cat-first : (f g : ℕ → List A) (y : A) (t n : ℕ) → t < n → ((i : ℕ) → i < t → f i ≡ []) → f t ≡ y ∷ []
+      → ((i : ℕ) → i ≤ t → g i ≡ []) → ((i : ℕ) → t < i → g i ≡ f i) → cat f n ≡ y ∷ cat g n
+  cat-first f g y t n h before here gone after =
+      let d = n - suc t in
+      let e : n ≡ suc t + d = omega arith in
+      let front : cat f (suc t) ≡ y ∷ [] = cat-suc f t ∙ rw (cat-none f t before, here) in
+      ap (cat f) e ∙ cat-split f (suc t) d
+      ∙ ap₂ (λ (k l : List A). k ++ l) front (cat-cong _ _ d (λ i _. sym (after (suc t + i) (omega arith))))
+      ∙ ap (λ (l : List A). y ∷ l)
+      (sym (ap (cat g) e ∙ cat-split g (suc t) d ∙ rw (cat-none g (suc t) (λ i l. gone i (omega arith)))))
+
   -- ---- tab
 
   pub tab-suc : (f : ℕ → A) (n : ℕ) → tab f (suc n) ≡ tab f n ++ f n ∷ []
@@ -115,6 +151,10 @@ module _ {A : Type 0} where
   pub is-tab : (f : ℕ → A) (d : A) (n : ℕ) (l : List A) → length l ≡ n → ((i : ℕ) → i < n → getD l i d ≡ f i) → l ≡ tab f n
   is-tab f d n l e h =
       ext-getD d l (tab f n) (e ∙ sym (length-tab f n)) (λ i k. let k′ : i < n = rw e at k in h i k′ ∙ sym (getD-tab f d n i k′))
+
+  -- two tables of n elements are equally long
+  pub same-long : (f g : ℕ → A) (n : ℕ) {l l′ : List A} → l ≡ tab f n → l′ ≡ tab g n → length l ≡ length l′
+  same-long f g n e e′ = ap length e ∙ length-tab f n ∙ sym (ap length e′ ∙ length-tab g n)
 
   pub tab-cong : (f g : ℕ → A) (n : ℕ) → ((i : ℕ) → i < n → f i ≡ g i) → tab f n ≡ tab g n
   tab-cong f g n h = cat-cong (λ i. f i ∷ []) (λ i. g i ∷ []) n (λ i l. ap (λ (x : A). x ∷ []) (h i l))
@@ -142,11 +182,6 @@ module _ {A : Type 0} where
   pub any-none : (t : A → Bool) → any t [] ≡ false
   unfolding any
   any-none t = refl
-
-  pub any-cong : (t u : A → Bool) (l : List A) → ((x : A) → t x ≡ u x) → any t l ≡ any u l
-  unfolding any
-  any-cong t u [] h = refl
-  any-cong t u (x ∷ l) h = ap₂ (λ (a b : Bool). a || b) (h x) (any-cong t u l h)
 
   pub any-map : {B : Type 0} (t : A → Bool) (f : B → A) (l : List B) → any t (map f l) ≡ any (λ x. t (f x)) l
   unfolding any
@@ -186,6 +221,9 @@ has-one i x = any-one (eqb i) x
 pub has-none : (i : ℕ) → has i [] ≡ false
 has-none i = any-none (eqb i)
 
+pub has-suc : (f : ℕ → ℕ) (n j : ℕ) → has j (tab f (suc n)) ≡ (has j (tab f n) || eqb j (f n))
+has-suc f n j = rw (tab-suc f n) (has-append j (tab f n) (f n ∷ []) ∙ ap (_||_ (has j (tab f n))) (has-one j (f n)))
+
 -- ---- same
 
 pub same-refl : (l : List ℕ) → same l l ≡ true
@@ -201,6 +239,44 @@ same-true (x ∷ k) [] h = both-ways (sym h)
 same-true (x ∷ k) (y ∷ l) h =
     ap₂ (λ (a : ℕ) (r : List ℕ). a ∷ r) (eqb-true x y (and-left (eqb x y) (same k l) h)) (same-true k l (and-right (eqb x y) (same k l) h))
 
+-- the test, both ways
+pub same-yes : (k l : List ℕ) → k ≡ l → same k l ≡ true
+same-yes k l e = rw e (same-refl l)
+
+pub same-no : (k l : List ℕ) → (k ≡ l → ⊥) → same k l ≡ false
+same-no k l f = ⊎-elim (λ (e : same k l ≡ true). absurd (f (same-true k l e))) (λ (e : same k l ≡ false). e) (either (same k l))
+
+-- ---- set
+
+-- one more at place j is at most one more at place d
+pub one-more : (l : List ℕ) (j d : ℕ) → getD (set l j (getD l j 0 + 1)) d 0 ≤ getD l d 0 + 1
+one-more l j d =
+    ⊎-elim
+    (λ (h : j < length l).
+    ⊎-elim (λ (e : d ≡ j). rw e (omega (arith, getD-set-same l j (getD l j 0 + 1) 0 h)))
+    (λ (ne : d ≡ j → ⊥). omega (arith, getD-set-other l j d (getD l j 0 + 1) 0 ne)) (eq-or-ne d j))
+    (λ (g : length l ≤ j). rw (set-out l j (getD l j 0 + 1) g) (omega arith)) (lt-or-le j (length l))
+
+-- one list after another
+pub sets-append : {A : Type 0} (a l : List A) (i : ℕ) (b : List A) → sets (sets l i a) (i + length a) b ≡ sets l i (a ++ b)
+sets-append [] l i b = rw add-zero
+sets-append (x ∷ a) l i b =
+    let e : i + suc (length a) ≡ suc i + length a = omega arith in
+    ap (λ (k : ℕ). sets (sets (set l i x) (suc i) a) k b) e ∙ sets-append a (set l i x) (suc i) b
+
+-- ---- map
+
+module _ {A B : Type 0} (f : A → B) where
+  pub getD-map : (d : A) (e : B) (l : List A) (p : ℕ) → p < length l → getD (map f l) p e ≡ f (getD l p d)
+  getD-map d e [] p h = absurd (omega arith)
+  getD-map d e (x ∷ l) zero h = refl
+  getD-map d e (x ∷ l) (suc p) h = getD-map d e l p (omega arith)
+
+  pub map-take : (k : ℕ) (l : List A) → map f (take k l) ≡ take k (map f l)
+  map-take zero l = refl
+  map-take (suc k) [] = refl
+  map-take (suc k) (x ∷ l) = ap (λ (r : List B). f x ∷ r) (map-take k l)
+
 -- ---- padded, over
 
 -- a list that fills its P places is written as it is; and how long what is written is
@@ -210,15 +286,12 @@ padded-all l = sym (is-tab (λ p. getD l p 0) 0 (length l) l refl (λ i h. refl)
 pub length-padded : (P : ℕ) (l : List ℕ) → length (padded P l) ≡ P
 length-padded P l = length-tab (λ p. getD l p 0) P
 
--- no answers: zeros
-pub padded-none : (P : ℕ) → padded P [] ≡ replicate P 0
-padded-none P = sym (is-tab (λ p. getD [] p 0) 0 P (replicate P 0) (length-replicate P 0) (λ i h. getD-replicate P i 0 0 h))
+-- what is past the places is not written
+pub padded-take : (P : ℕ) (l : List ℕ) → padded P (take P l) ≡ padded P l
+padded-take P l = tab-cong _ _ P (λ p h. getD-take P l p 0 h)
 
 module _ {A : Type 0} where
-  -- nothing written, nothing changed; and the front of what is written, and its rest
-  pub over-none : (old : List A) → over [] old ≡ old
-  over-none old = refl
-
+  -- the front of what is written, and its rest
   pub take-over : (l old : List A) (k : ℕ) → length l ≡ k → take k (over l old) ≡ l
   take-over l old k e = take-at l (drop (length l) old) k e
 
@@ -227,6 +300,28 @@ module _ {A : Type 0} where
 
   pub length-over : (l old : List A) → length l ≤ length old → length (over l old) ≡ length old
   length-over l old h = length-append l (drop (length l) old) ∙ simp length-drop (omega arith)
+
+  -- over the whole of a list; and over a front of it, the rest of which stays
+  pub over-all : (l old : List A) → length l ≡ length old → over l old ≡ l
+  over-all l old e = let g : length old ≤ length l = omega arith in ap (λ (r : List A). l ++ r) (drop-of-length-le old g) ∙ append-nil l
+
+  pub over-front : (l old : List A) (k : ℕ) → length l ≡ k → k ≤ length old → over l (take k old) ++ drop k old ≡ over l old
+  over-front l old k e h =
+      ap (λ (r : List A). r ++ drop k old) (over-all l (take k old) (e ∙ sym (length-take-le k old h))) ∙ ap (λ (j : ℕ). l ++ drop j old) (sym e)
+
+pub over-padded : (P : ℕ) (l old : List ℕ) → length old ≡ P → over (padded P l) old ≡ padded P l
+over-padded P l old e = over-all (padded P l) old (length-padded P l ∙ sym e)
+
+pub take-padded : (P : ℕ) (l old : List ℕ) → length l ≤ P → take (length l) (over (padded P l) old) ≡ l
+take-padded P l old h =
+    let (t, e) = cat-front (λ p. getD l p 0 ∷ []) (length l) P h in
+    ap (λ (a : List ℕ). take (length l) (a ++ drop (length (padded P l)) old)) e
+    ∙ ap (take (length l)) (append-assoc (padded (length l) l) t (drop (length (padded P l)) old))
+    ∙ take-at (padded (length l) l) (t ++ drop (length (padded P l)) old) (length l) (length-padded (length l) l)
+    ∙ padded-all l
+
+pub over-at : (P : ℕ) (l old : List ℕ) (p : ℕ) → p < P → getD (over (padded P l) old) p 0 ≡ getD l p 0
+over-at P l old p h = List·getD-append (padded P l) _ 0 p (rw length-padded h) ∙ getD-tab (λ i. getD l i 0) 0 P p h
 
 -- ---- between
 

@@ -58,16 +58,5 @@ binomial-above zero (suc r) h = refl
 binomial-above (suc s) zero h = omega arith
 binomial-above (suc s) (suc r) h = omega (arith, binomial-above s r (omega arith), binomial-above s (suc r) (omega arith))
 
--- Pascal's rule for the sums, and all 2 ^ s of them
-pub L-step : (s k : ℕ) → L (suc s) (suc k) ≡ L s k + L s (suc k)
-unfolding binomial sum
-L-step s zero = refl
-L-step s (suc k) = omega (arith, L-step s k)
-
-pub L-all : (s : ℕ) → L s (suc s) ≡ 2 ^ s
-unfolding binomial sum
-L-all zero = refl
-L-all (suc s) = omega (arith, L-step s (suc s), L-all s, binomial-above s (suc s) (omega arith))
-
 pub L-le : (s k : ℕ) → L s k ≤ 2 ^ s
 L-le s k = omega (arith, count-fewer s k, count-le (λ x. ltb (ones x) k) (2 ^ s))

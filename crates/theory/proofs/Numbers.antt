@@ -1,11 +1,11 @@
 -- Numbers put together from bits: their bound, their ones, operations on their bits, and the bits taken out again. Assumes nothing.
 use mathlib.Core.Path.{_≡_, refl, sym, ap, ap₂, _∙_}
-use Prim.Native.Nat.{ℕ, zero, suc, _+_, _-_, _*_, _/_, _%_, _^_, _<_}
-use native.Mathlib.Nat.{add-comm, add-zero, add-suc, add-mul, mul-assoc, mul-comm, mod-one, mod-lt, mod-eq-of-lt, pow-suc, one-mul, zero-add, zero-lt-suc}
+use Prim.Native.Nat.{ℕ, zero, suc, _+_, _*_, _/_, _%_, _^_, _<_}
+use native.Mathlib.Nat.{add-comm, add-zero, add-suc, add-mul, mul-assoc, mul-comm, mod-one, pow-suc, one-mul, lt-of-le-of-lt, le-of-lt, mul-le-mul-left}
 use native.Mathlib.Numerals.{one-add}
 use native.Mathlib.Omega.{arith}
 use lib.Arith.{digits-lt}
-use lib.Pow.{pow-add, mod-pow-add, shr-shr, shl-exact, high}
+use lib.Pow.{pow-add, mod-pow-add, shr-shr, shl-exact, shl-lt}
 use lib.Bits.{differ, bitXor, xor-block}
 use lib.Count.{ones, ones-cat}
 use Rattle.theory.specs.Lists.{sum}
@@ -14,6 +14,10 @@ use Rattle.theory.proofs.Sums.{sum-suc, sum-cong}
 -- the code's `1 << n`
 pub one-shl : (n : ℕ) → n < 64 → 1 * 2 ^ n % 2 ^ 64 ≡ 2 ^ n
 one-shl n h = shl-exact 1 n 64 (omega arith) (omega arith) ∙ one-mul (2 ^ n)
+
+-- a product has at most the bits of both factors
+pub product-lt : (j k : ℕ) {a b : ℕ} → a < 2 ^ j → b < 2 ^ k → a * b < 2 ^ (j + k)
+product-lt j k {a} p q = lt-of-le-of-lt (mul-le-mul-left a (le-of-lt q)) (shl-lt j k p)
 
 -- the number of n bits whose bit i is f i, low bit first
 abbrev pub number : (ℕ → ℕ) → ℕ → ℕ
@@ -58,21 +62,6 @@ number-digits a o (suc n) =
     ∙ ap₂ (λ (x y : ℕ). x % 2 * 2 ^ n + y) (sym (shr-shr a o n)) (number-digits a o n)
     ∙ sym (ap (λ (k : ℕ). a / 2 ^ o % 2 ^ k) (sym (one-add n)) ∙ mod-pow-add (a / 2 ^ o) 1 n)
 
--- bit i of a number that was put together from bits
-pub number-bit : (f : ℕ → ℕ) (n i : ℕ) → Bits f → i < n → number f n / 2 ^ i % 2 ≡ f i
-unfolding sum
-number-bit f n i h l =
-    let d = n - suc i in
-    let g : ℕ → ℕ = λ j. f (i + j) in
-    let e : n ≡ i + (1 + d) = omega arith in
-    let parts : number f n ≡ number g (1 + d) * 2 ^ i + number f i =
-    ap (number f) e ∙ number-append f i (1 + d) ∙ add-comm (number f i) (number g (1 + d) * 2 ^ i) in
-    let low : number g (1 + d) ≡ 0 + f (i + 0) * 1 + number (λ j. g (1 + j)) d * 2 = number-append g 1 d in
-    let z : f (i + 0) ≡ f i = ap f (add-zero i) in
-    ap (λ (k : ℕ). k / 2 ^ i % 2) parts
-    ∙ ap (λ (k : ℕ). k % 2) (high (number g (1 + d)) i (number-lt f i h))
-    ∙ omega (arith, h i)
-
 -- ---- ones
 
 ones-bit : (b : ℕ) → b < 2 → ones b ≡ b
@@ -88,14 +77,6 @@ number-ones f zero h = refl
 number-ones f (suc n) h =
     ap ones (number-suc f n) ∙ ones-cat n (f n) (number f n) (number-lt f n h) ∙ add-comm (ones (f n)) (ones (number f n))
     ∙ ap₂ (λ (a b : ℕ). a + b) (number-ones f n h) (ones-bit (f n) (h n))
-
--- the ones of a number of n bits, one bit at a time: this computes at any size, and `ones` does not
-pub ones-digits : (a n : ℕ) → a < 2 ^ n → ones a ≡ sum (λ i. a / 2 ^ i % 2) n
-ones-digits a n h =
-    let f : ℕ → ℕ = λ i. a / 2 ^ (0 + i) % 2 in
-    let bits : number f n ≡ a = number-digits a 0 n ∙ ap (λ (k : ℕ). k % 2 ^ n) (omega arith) ∙ mod-eq-of-lt h in
-    ap ones (sym bits) ∙ number-ones f n (λ i. mod-lt (a / 2 ^ (0 + i)) (zero-lt-suc 1))
-    ∙ sum-cong f (λ i. a / 2 ^ i % 2) n (λ i l. ap (λ (k : ℕ). a / 2 ^ k % 2) (zero-add i))
 
 -- ---- operations on bits
 

@@ -1,26 +1,26 @@
 -- What the steps open, over m tables: how many buckets, which, and each once. Assumes nothing.
 use mathlib.Core.Path.{_≡_, refl, sym, ap, ap₂, _∙_}
-use mathlib.Core.Logic.{_⊎_, ⊎-elim, _↔_}
+use mathlib.Core.Logic.{_⊎_, ⊎-elim}
 use mathlib.Core.Bool.{Bool, true, false, _&&_, and-false}
-use mathlib.Core.List.{List, map}
+use mathlib.Core.List.{List, [], _∷_, map}
 use Prim.Native.Nat.{ℕ, zero, suc, _+_, _-_, _*_, _/_, _%_, _^_, _≤_, _<_}
-use native.Mathlib.Nat.{mod-lt, div-add-mod', suc-mul, add-suc, zero-mul, le-refl, le-of-suc-le-suc}
+use native.Mathlib.Nat.{mod-lt, div-add-mod', suc-mul, add-suc, zero-mul, le-refl}
 use native.Mathlib.Omega.{arith}
 use lib.Arith.{digits-div, digits-mod}
 use lib.Bits.{bitXor, xor-lt}
 use lib.Count.{ones}
 use lib.Dec.{eqb, ltb}
 use lib.ListN.{length, length-map}
-use borrow.Author.Tests.{eq-eqb, ne-eqb, lt-ltb, le-ltb, eqb-true, ltb-true}
-use Rattle.theory.specs.Lists.{sum, cat, upto, count}
+use borrow.Author.Tests.{eq-eqb, ne-eqb, lt-ltb, le-ltb, eqb-true}
+use Rattle.theory.specs.Lists.{sum, cat, upto, count, any}
 use Rattle.theory.specs.Binomials.{L}
-use Rattle.theory.proofs.Tests.{either, lt-or-le, oneIf, oneIf-one}
+use Rattle.theory.proofs.Tests.{either, lt-or-le, both-ways, or-right, and-left, and-right, oneIf}
 use Rattle.theory.proofs.Sums.{sum-cong, sum-split, sum-zero, sum-at, sum-plus, sum-const}
 use Rattle.theory.proofs.Lists.{length-cat}
 use Rattle.theory.proofs.Times.{times, times-cat, times-map, times-cong, times-never, once}
 use Rattle.theory.proofs.Xor.{xor-undo, eqb-xor}
 use Rattle.theory.proofs.Masks.{count-masks}
-use Rattle.theory.proofs.Pigeon.{Open, open-step, step-open, pigeon-step}
+use Rattle.theory.proofs.Pigeon.{pigeon-step}
 
 -- Step R opens of table a = R % m each bucket whose exclusive-or with the query's substring has weight R / m, ascending by the exclusive-or.
 -- `len z` is the length of table z's substrings, `wt z e` the weight of the exclusive-or e, and `q z` the query's substring.
@@ -34,6 +34,21 @@ openedBy m len wt q n = cat (stepBy m len wt q) n
 -- the bucket b is bucket v of table z
 abbrev pub is : ℕ → ℕ → ℕ × ℕ → Bool
 is z v b = eqb z (b .0) && eqb v (b .1)
+
+-- a bucket of a list that passes the test
+pub any-bucket : (t : ℕ × ℕ → Bool) (l : List (ℕ × ℕ)) → any t l ≡ true → (b : ℕ × ℕ) × (t b ≡ true) × (any (is (b .0) (b .1)) l ≡ true)
+unfolding any
+any-bucket t [] h = both-ways (sym h)
+any-bucket t (b ∷ l) h =
+    ⊎-elim (λ (e : t b ≡ true). (b, e, rw (eq-eqb (b .0) (b .0) refl, eq-eqb (b .1) (b .1) refl)))
+    (λ (e : t b ≡ false). let (c, p, q) = any-bucket t l (rw e at h) in (c, p, or-right (is (c .0) (c .1) b) (any (is (c .0) (c .1)) l) q)) (either (t b))
+
+-- the bucket of its own substring
+pub is-own : (sub : ℕ → ℕ → ℕ) (i z : ℕ) (b : ℕ × ℕ) → is z (sub z i) b ≡ true → eqb (sub (b .0) i) (b .1) ≡ true
+is-own sub i z b e =
+    let at = eqb-true z (b .0) (and-left (eqb z (b .0)) (eqb (sub z i) (b .1)) e) in
+    let v = eqb-true (sub z i) (b .1) (and-right (eqb z (b .0)) (eqb (sub z i) (b .1)) e) in
+    eq-eqb (sub (b .0) i) (b .1) (ap (λ (z : ℕ). sub z i) (sym at) ∙ v)
 
 -- ---- sums over places R < n, by R % m and R / m
 
@@ -138,16 +153,6 @@ module _ (m : ℕ) (len : ℕ → ℕ) (wt : ℕ → ℕ → ℕ) (q : ℕ → �
           lt-ltb at n l,
         ))
         (λ (g : n ≤ at). sum-zero (λ R. times (is z v) (stepBy m len wt q R)) n (λ R l. other R (omega arith)) ∙ rw (le-ltb at n g)) (lt-or-le at n)
-
-    -- the same by radii
-    pub opened-iff : v < 2 ^ len z → (r a : ℕ) → a < m
-        → (times (is z v) (openedBy m len wt q (suc (r * m + a))) ≡ 1) ↔ Open r a z (wt z (bitXor (q z) v))
-    opened-iff hv r a ha =
-        let one = opened-once hv (suc (r * m + a)) in
-        let d = wt z (bitXor (q z) v) in (
-          λ e. step-open m r a z d ha (le-of-suc-le-suc (ltb-true (d * m + z) (suc (r * m + a)) (oneIf-one (ltb (d * m + z) (suc (r * m + a))) (sym one ∙ e)))),
-          λ o. one ∙ ap oneIf (lt-ltb (d * m + z) (suc (r * m + a)) (omega (arith, open-step m r a z d hz o))),
-        )
 
   too-far : q z < 2 ^ len z → 2 ^ len z ≤ v → 2 ^ len z ≤ bitXor (q z) v
   too-far hq h =

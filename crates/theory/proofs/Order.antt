@@ -3,17 +3,16 @@ use mathlib.Core.Path.{_≡_, refl, sym, ap, ap₂, _∙_, subst}
 use mathlib.Core.Logic.{inl, inr, ⊎-elim}
 use mathlib.Core.Bool.{Bool, true, false, _&&_, and-true, and-false}
 use mathlib.Core.List.{List, [], _∷_, _++_}
-use Prim.Native.Nat.{ℕ, zero, suc, _+_, _-_, _≤_, _<_}
-use native.Mathlib.Nat.{le-of-suc-le-suc, not-suc-le-zero}
+use Prim.Native.Nat.{ℕ, zero, suc, _≤_, _<_}
 use native.Mathlib.Omega.{arith}
 use lib.Dec.{eqb, ltb}
-use lib.ListN.{length, take, getD}
+use lib.ListN.{length, take}
 use lib.Seq.{take-append-le}
 use borrow.Author.Tests.{eq-eqb, ne-eqb, eqb-true, eqb-false}
 use Rattle.theory.specs.Lists.{sum, cat, upto, ranked}
 use Rattle.theory.proofs.Tests.{either, and-left, oneIf}
 use Rattle.theory.proofs.Sums.{sum-cong, sum-zero}
-use Rattle.theory.proofs.Lists.{cat-cong, cat-split}
+use Rattle.theory.proofs.Lists.{cat-cong, cat-front}
 use Rattle.theory.proofs.Counting.{only, upto-cong}
 use Rattle.theory.proofs.Times.{times, times-cat, times-upto, once}
 pub use Rattle.theory.specs.Order.{All, Sorted, Before}
@@ -29,21 +28,9 @@ module _ {A : Type 0} where
   all-imp P Q [] f h = tt
   all-imp P Q (x ∷ l) f h = (f x (h .0), all-imp P Q l f (h .1))
 
-  pub all-getD : (P : A → Type 0) (l : List A) (d : A) → All P l → (k : ℕ) → k < length l → P (getD l k d)
-  all-getD P [] d h k i = absurd (not-suc-le-zero i)
-  all-getD P (x ∷ l) d h zero i = h .0
-  all-getD P (x ∷ l) d h (suc k) i = all-getD P l d (h .1) k (le-of-suc-le-suc i)
-
   sorted-append : (R : A → A → Type 0) (l m : List A) → Sorted R l → Sorted R m → All (λ x. All (R x) m) l → Sorted R (l ++ m)
   sorted-append R [] m h k c = k
   sorted-append R (x ∷ l) m h k c = (all-append (R x) l m (h .0) (c .0), sorted-append R l m (h .1) k (c .1))
-
-  -- by place
-  pub sorted-getD : (R : A → A → Type 0) (l : List A) (d : A) → Sorted R l → (j k : ℕ) → j < k → k < length l → R (getD l j d) (getD l k d)
-  sorted-getD R [] d h j k jk kl = absurd (not-suc-le-zero kl)
-  sorted-getD R (x ∷ l) d h j zero jk kl = absurd (not-suc-le-zero jk)
-  sorted-getD R (x ∷ l) d h zero (suc k) jk kl = all-getD (R x) l d (h .0) k (le-of-suc-le-suc kl)
-  sorted-getD R (x ∷ l) d h (suc j) (suc k) jk kl = sorted-getD R l d (h .1) j k (le-of-suc-le-suc jk) (le-of-suc-le-suc kl)
 
   -- one relation for another, where all elements have a property
   sorted-imp : (R S : A → A → Type 0) (P : A → Type 0) (l : List A) → ((x y : A) → P x → P y → R x y → S x y) → All P l → Sorted R l → Sorted S l
@@ -123,18 +110,10 @@ ranked-cong key keep kept n q h =
     ⊎-elim (λ (e : eqb (key i) d ≡ true). ap (λ (b : Bool). eqb (key i) d && b) (h i li (omega (arith, eqb-true (key i) d e))))
     (λ (e : eqb (key i) d ≡ false). rw e) (either (eqb (key i) d))))
 
--- and only the keys of entries
-pub ranked-keys : (key key′ : ℕ → ℕ) (keep : ℕ → Bool) (n q : ℕ) → ((i : ℕ) → i < n → key i ≡ key′ i) → ranked key keep n q ≡ ranked key′ keep n q
-unfolding ranked
-ranked-keys key key′ keep n q h = cat-cong _ _ q (λ d _. upto-cong _ _ n (λ i li. ap (λ (x : ℕ). eqb x d && keep i) (h i li)))
-
 -- the near ones come first
 pub ranked-front : (key : ℕ → ℕ) (keep : ℕ → Bool) (n R q : ℕ) → R ≤ q → (t : List ℕ) × (ranked key keep n q ≡ ranked key keep n R ++ t)
 unfolding ranked
-ranked-front key keep n R q h =
-    let f : ℕ → List ℕ = λ d. upto (λ i. eqb (key i) d && keep i) n in
-    let e : q ≡ R + (q - R) = omega arith in
-    (cat (λ i. f (R + i)) (q - R), ap (cat f) e ∙ cat-split f R (q - R))
+ranked-front key keep n R q h = cat-front (λ d. upto (λ i. eqb (key i) d && keep i) n) R q h
 
 -- where two sets agree on the entries with keys below R, and K of those are in them, their first K are the same
 pub first-ranked : (key : ℕ → ℕ) (keep kept : ℕ → Bool) (n R q K : ℕ) → R ≤ q → ((i : ℕ) → i < n → key i < R → keep i ≡ kept i)
@@ -155,7 +134,7 @@ all-times P x [] h t = absurd (omega arith)
 all-times P x (y ∷ l) h t =
     ⊎-elim (λ e. subst P (sym (eqb-true x y e)) (h .0)) (λ e. all-times P x l (h .1) (let t′ = rw e at t in omega (arith, t′))) (either (eqb x y))
 
-before-asym : (key : ℕ → ℕ) (x y : ℕ) → Before key x y → Before key y x → ⊥
+pub before-asym : (key : ℕ → ℕ) (x y : ℕ) → Before key x y → Before key y x → ⊥
 before-asym key x y (inl a) (inl b) = omega arith
 before-asym key x y (inl a) (inr b) = omega arith
 before-asym key x y (inr a) (inl b) = omega arith

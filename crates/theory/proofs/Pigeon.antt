@@ -41,13 +41,6 @@ unfolding Open
 open-step m r a z d h o =
     ⊎-elim (λ (b : (z ≤ a) × (d ≤ r)). omega (arith, mul-le-mul-right m (b .1))) (λ (b : (a < z) × (d < r)). omega (arith, mul-le-mul-right m (b .1))) o
 
-pub step-open : (m r a z d : ℕ) → a < m → d * m + z ≤ r * m + a → Open r a z d
-unfolding Open
-step-open m r a z d h l =
-    ⊎-elim (λ (o : Open r a z d). o)
-    (λ c. absurd (⊎-elim (λ (n : (z ≤ a) × (r < d)). omega (arith, mul-le-mul-right m (n .1)))
-    (λ (n : (a < z) × (r ≤ d)). omega (arith, mul-le-mul-right m (n .1))) c)) (open-or r a z d)
-
 pub pigeon-step : (d : ℕ → ℕ) (m R : ℕ) → 0 < m → sum d m ≤ R → (z : ℕ) × (z < m) × (d z * m + z ≤ R)
 pigeon-step d m R h l =
     let e = div-add-mod' R m in

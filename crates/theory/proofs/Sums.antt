@@ -1,9 +1,9 @@
 -- Laws of `sum`. Assumes nothing.
-use mathlib.Core.Path.{_≡_, refl, sym, ap, ap₂, _∙_}
+use mathlib.Core.Path.{_≡_, refl, ap, ap₂, _∙_}
 use mathlib.Core.Logic.{⊎-elim}
 use Prim.Native.Nat.{ℕ, zero, suc, _+_, _*_, _≤_, _<_}
 use native.Mathlib.Nat.{add-zero, add-suc, le-refl, eq-or-lt-of-le, le-of-suc-le-suc}
-use native.Mathlib.Decide.{le-ind, decLt}
+use native.Mathlib.Decide.{le-ind}
 use native.Mathlib.Omega.{arith}
 use Rattle.theory.specs.Lists.{sum}
 
@@ -43,11 +43,6 @@ unfolding sum
 sum-const c zero = omega arith
 sum-const c (suc n) = omega (arith, sum-const c n)
 
-pub sum-swap : (f : ℕ → ℕ → ℕ) (n m : ℕ) → sum (λ i. sum (f i) m) n ≡ sum (λ j. sum (λ i. f i j) n) m
-unfolding sum
-sum-swap f zero m = sym (sum-zero (λ _. 0) m (λ _ _. refl))
-sum-swap f (suc n) m = ap (λ (x : ℕ). x + sum (f n) m) (sum-swap f n m) ∙ sym (sum-plus (λ j. sum (λ i. f i j) n) (f n) m)
-
 -- all but place k are 0
 pub sum-at : (f : ℕ → ℕ) (k n : ℕ) → ((i : ℕ) → i < n → (i ≡ k → ⊥) → f i ≡ 0) → k < n → sum f n ≡ f k
 unfolding sum
@@ -68,13 +63,3 @@ sum-grows f m n h = le-ind (λ (k : ℕ). sum f m ≤ sum f k) (le-refl (sum f m
 
 pub sum-le : (f : ℕ → ℕ) (b n : ℕ) → ((i : ℕ) → i < n → f i ≤ b) → sum f n ≤ n * b
 sum-le f b n h = omega (arith, sum-mono f (λ _. b) n h, sum-const b n)
-
--- one term that stays behind
-pub sum-pigeon : (f g : ℕ → ℕ) (n : ℕ) → sum f n < sum g n → (z : ℕ) × (z < n) × (f z < g z)
-unfolding sum
-sum-pigeon f g zero h = absurd (omega arith)
-sum-pigeon f g (suc n) h = go (λ l. sum-pigeon f g n l) (decLt (f n) (g n))
-  where
-    go : (sum f n < sum g n → (z : ℕ) × (z < n) × (f z < g z)) → Dec (f n < g n) → (z : ℕ) × (z < suc n) × (f z < g z)
-    go ih (yes l) = (n, omega arith, l)
-    go ih (no r) = let t = ih (omega arith) in (t .0, omega (arith, t .1), t .2)

@@ -1,8 +1,8 @@
 -- Tests taken apart, and counted. Assumes nothing.
-use mathlib.Core.Path.{_≡_, refl, sym, subst}
+use mathlib.Core.Path.{_≡_, refl, sym, subst, _∙_}
 use mathlib.Core.Logic.{_⊎_, inl, inr, ⊎-elim}
-use mathlib.Core.Bool.{Bool, true, false, _&&_, _||_}
-use Prim.Native.Nat.{ℕ, suc, _+_, _≤_, _<_}
+use mathlib.Core.Bool.{Bool, true, false, _&&_, _||_, cond, or-false}
+use Prim.Native.Nat.{ℕ, suc, _+_, _≤_, _<_, max}
 use native.Mathlib.Nat.{eq-or-lt-of-le}
 use native.Mathlib.Omega.{arith}
 use lib.Dec.{T, eqb, ltb, leb}
@@ -20,6 +20,11 @@ lt-or-le a b = ⊎-elim (λ e. inl (ltb-true a b e)) (λ e. inr (ltb-false a b e
 
 pub eq-or-ne : (a b : ℕ) → (a ≡ b) ⊎ (a ≡ b → ⊥)
 eq-or-ne a b = ⊎-elim (λ e. inl (eqb-true a b e)) (λ e. inr (eqb-false a b e)) (either (eqb a b))
+
+-- a choice taken apart
+pub split : {A P : Type 0} (t : Bool) (x y z : A) → cond t x y ≡ z → (t ≡ true → x ≡ z → P) → (t ≡ false → y ≡ z → P) → P
+split true x y z h f g = f refl h
+split false x y z h f g = g refl h
 
 -- a test does not both pass and fail
 pub both-ways : {A : Type 0} → true ≡ false → A
@@ -46,6 +51,12 @@ or-left false b h = both-ways (sym h)
 pub or-right : (a b : Bool) → b ≡ true → (a || b) ≡ true
 or-right true b h = refl
 or-right false b h = h
+
+pub or-swap : (a b c : Bool) → (a || b || c) ≡ (a || c || b)
+or-swap true b c = refl
+or-swap false true true = refl
+or-swap false true false = refl
+or-swap false false c = sym (or-false c)
 
 pub or-false-left : (a b : Bool) → (a || b) ≡ false → a ≡ false
 or-false-left true b h = h
@@ -77,15 +88,23 @@ pub leb-is-ltb : (a R : ℕ) → leb a R ≡ ltb a (suc R)
 leb-is-ltb a R =
     same-test (leb a R) (ltb a (suc R)) (λ e. lt-ltb a (suc R) (omega (arith, leb-true a R e))) (λ e. le-leb a R (omega (arith, ltb-true a (suc R) e)))
 
+-- below i + 1 are those below i, and i
+pub ltb-suc : (i x : ℕ) → (x ≡ i → ⊥) → ltb x (suc i) ≡ ltb x i
+ltb-suc i x ne =
+    ⊎-elim (λ (l : x < i). lt-ltb x (suc i) (omega arith) ∙ sym (lt-ltb x i l)) (λ (g : i ≤ x). le-ltb x (suc i) (omega arith) ∙ sym (le-ltb x i g))
+    (lt-or-le x i)
+
 -- ---- a test as a number
+
+pub max-is-or : (a b : Bool) → max (oneIf a) (oneIf b) ≡ oneIf (a || b)
+max-is-or true true = refl
+max-is-or true false = refl
+max-is-or false true = refl
+max-is-or false false = refl
 
 pub oneIf-le : (b : Bool) → oneIf b ≤ 1
 oneIf-le true = omega arith
 oneIf-le false = omega arith
-
-pub oneIf-one : (b : Bool) → oneIf b ≡ 1 → b ≡ true
-oneIf-one true e = refl
-oneIf-one false e = absurd (omega arith)
 
 -- below k + 1: below k, or k
 pub oneIf-suc : (a k : ℕ) → oneIf (ltb a (suc k)) ≡ oneIf (ltb a k) + oneIf (eqb a k)

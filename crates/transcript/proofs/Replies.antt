@@ -1,25 +1,21 @@
 -- What a search lists, prints and leaves: no more than n answers; the same text whatever the lists held; lists as long as they were. Assumes nothing.
 use mathlib.Core.Path.{_≡_, refl, ap, ap₂, sym, _∙_}
-use mathlib.Core.Bool.{Bool, true, false, cond, _&&_}
-use mathlib.Core.List.{List, [], _∷_, _++_}
-use Prim.Native.Nat.{ℕ, _+_, min, _≤_, _<_}
+use mathlib.Core.List.{List, _++_}
+use Prim.Native.Nat.{ℕ, min, _≤_}
 use native.Mathlib.Omega.{arith}
-use lib.Dec.{eqb, ltb}
-use lib.ListN.{length, getD, drop, length-take, List·getD-append}
-use Rattle.theory.specs.Lists.{over, padded}
-use Rattle.theory.proofs.Lists.{cat-cong, length-padded, length-over}
-use Rattle.theory.proofs.Counting.{count-le}
-use Rattle.theory.proofs.Placing.{length-ranked}
-use Rattle.scope.specs.declared.Refusal.{Refusal}
+use lib.ListN.{length, getD, length-take}
+use Rattle.theory.proofs.Lists.{cat-cong}
 use Rattle.scope.specs.declared.Found.{Found}
 use Rattle.scope.specs.declared.Found.the-variants as found
 use Rattle.scope.specs.Shape.{q}
 use Rattle.scope.specs.Tables.{Index, n}
-use Rattle.scope.specs.Walk.{distanceOf, tested}
+use Rattle.scope.specs.Walk.{tested}
 use Rattle.scope.specs.Walk as walk
 use Rattle.scope.specs.Search.{K, nearestSteps, nearest, withinSteps, within, answers}
-use Rattle.scope.specs.Refusals.{Rows, unless, lent, changes, ofFound}
+use Rattle.scope.specs.Refusals.{lent, ofFound}
 use Rattle.scope.specs.Calls.{Asked, asked, room, report, nearestAnswer, withinAnswer, searchEnd, nearestEnd, withinEnd, verdictAnswer, verdictEnd}
+use Rattle.scope.proofs.Walking.{few-answers}
+use Rattle.scope.proofs.Rows.{unless-holds, lent-at, length-lent}
 use Rattle.reading.specs.declared.Question.{Question}
 use Rattle.reading.specs.declared.Question.the-variants.{Nearest, Within, Verdict, Sky}
 use Rattle.lines.specs.Lines.{answerLine, answerLines, answersOf, countsLine, foundLines, near, within as withinWord, judgedLine}
@@ -28,30 +24,16 @@ use Rattle.transcript.specs.Transcript.{fresh}
 
 -- ---- how many answers there are
 
--- what holds of every refusal and of the answer holds of the first that fits
-unless-holds : (P : Found → Type 0) (rows : Rows) (answer : Found) → ((f : Refusal) → P (found.Refused f)) → P answer → P (unless rows found.Refused answer)
-unfolding unless
-unless-holds P [] answer refused listed = listed
-unless-holds P (row ∷ rows) answer refused listed = pick (row .0) (unless-holds P rows answer refused listed)
-  where
-    pick : (t : Bool) {x : Found} → P x → P (cond t (found.Refused (row .1)) x)
-    pick true h = refused (row .1)
-    pick false h = h
-
-few-answers : (ask : walk.Question) (keep : ℕ → Bool) (top : ℕ) → length (answers ask keep top) ≤ n (ask .index)
-few-answers ask keep top =
-    omega (arith, length-ranked (n (ask .index)) (distanceOf ask) keep (top + 1), count-le (λ i. ltb (distanceOf ask i) (top + 1) && keep i) (n (ask .index)))
-
 pub nearest-few : (c : Asked) (k : ℕ) → answersOf (nearestAnswer c k) ≤ K (c .question .index) k
 unfolding nearestAnswer report nearest
 nearest-few c k =
-    unless-holds (λ r. answersOf r ≤ K (c .question .index) k) _ _ (λ f. omega arith)
+    unless-holds (λ r. answersOf r ≤ K (c .question .index) k) _ found.Refused _ (λ f. omega arith)
     (omega (arith, length-take (K (c .question .index) k) (answers (c .question) (tested (c .question) (nearestSteps (c .question) k)) (q (c .question .index .shape)))))
 
 pub within-few : (c : Asked) (r : ℕ) → answersOf (withinAnswer c r) ≤ n (c .question .index)
 unfolding withinAnswer report within
 within-few c r =
-    unless-holds (λ r. answersOf r ≤ n (c .question .index)) _ _ (λ f. omega arith)
+    unless-holds (λ r. answersOf r ≤ n (c .question .index)) _ found.Refused _ (λ f. omega arith)
     (few-answers (c .question) (tested (c .question) (withinSteps (c .question .index) r)) r)
 
 -- ---- the answers do not go by what the lists hold
@@ -66,18 +48,13 @@ module _ (ask : walk.Question) (marks entries distances marks′ entries′ dist
   unfolding withinAnswer
   within-same r = rw (a, b, c)
 
--- the first P places hold the answers
-listed-at : (P : ℕ) (l old : List ℕ) (i : ℕ) → i < P → getD (lent 0 P l old) i 0 ≡ getD (padded P l) i 0
-unfolding lent
-listed-at P l old i h = List·getD-append (padded P l) (drop (length (padded P l)) old) 0 i (omega (arith, length-padded P l))
-
 answer-lines : (stars : List ℕ) (P : ℕ) (l m e e′ d d′ : List ℕ) (k : ℕ) → k ≤ P
     → answerLines stars (lent 0 P l e) (lent 0 P m d) k ≡ answerLines stars (lent 0 P l e′) (lent 0 P m d′) k
 unfolding answerLines
 answer-lines stars P l m e e′ d d′ k h =
     cat-cong _ _ k (λ i lt.
-    let p : getD (lent 0 P l e) i 0 ≡ getD (lent 0 P l e′) i 0 = listed-at P l e i (omega arith) ∙ sym (listed-at P l e′ i (omega arith)) in
-    let o : getD (lent 0 P m d) i 0 ≡ getD (lent 0 P m d′) i 0 = listed-at P m d i (omega arith) ∙ sym (listed-at P m d′ i (omega arith)) in
+    let p : getD (lent 0 P l e) i 0 ≡ getD (lent 0 P l e′) i 0 = lent-at P l e i (omega arith) ∙ sym (lent-at P l e′ i (omega arith)) in
+    let o : getD (lent 0 P m d) i 0 ≡ getD (lent 0 P m d′) i 0 = lent-at P m d i (omega arith) ∙ sym (lent-at P m d′ i (omega arith)) in
     ap₂ (λ (x y : ℕ). answerLine x (getD stars x 0) y) p o)
 
 found-lines : (word : List ℕ) (number : ℕ) (r : Found) (stars : List ℕ) (P : ℕ) (l m e e′ d d′ : List ℕ) → answersOf r ≤ P
@@ -97,16 +74,6 @@ found-same word number r r′ stars P P′ l m e e′ d d′ a b h =
 verdict-same : (ask : walk.Question) (marks marks′ : List ℕ) (t g : ℕ) → length marks ≡ length marks′ → verdictAnswer ask marks t g ≡ verdictAnswer ask marks′ t g
 unfolding verdictAnswer
 verdict-same ask marks marks′ t g a = rw a
-
--- ---- lists keep their length
-
-lent-length : (number P : ℕ) (l old : List ℕ) → P ≤ length old → length (lent number P l old) ≡ length old
-unfolding lent
-lent-length number P l old h = pick (changes number)
-  where
-    pick : (t : Bool) → length (cond t (over (padded P (cond (eqb number 7) [] l)) old) old) ≡ length old
-    pick true = length-over (padded P (cond (eqb number 7) [] l)) old (omega (arith, length-padded P (cond (eqb number 7) [] l)))
-    pick false = refl
 
 -- ---- replies
 
@@ -144,19 +111,19 @@ module _ (number : ℕ) (x : Index) (few : n x ≤ 512) where
   unfolding reply nearestEnd withinEnd searchEnd verdictEnd
   still-sized l a (Nearest k code) s =
       record {
-        marks = lent-length _ _ _ (l .marks) (omega (arith, a .marks)) ∙ a .marks;
-        entries = lent-length _ _ _ (l .entries) (omega (arith, a .entries)) ∙ a .entries;
-        distances = lent-length _ _ _ (l .distances) (omega (arith, a .distances)) ∙ a .distances;
+        marks = length-lent _ _ _ (l .marks) (omega (arith, a .marks)) ∙ a .marks;
+        entries = length-lent _ _ _ (l .entries) (omega (arith, a .entries)) ∙ a .entries;
+        distances = length-lent _ _ _ (l .distances) (omega (arith, a .distances)) ∙ a .distances;
       }
   still-sized l a (Within r code) s =
       record {
-        marks = lent-length _ _ _ (l .marks) (omega (arith, a .marks)) ∙ a .marks;
-        entries = lent-length _ _ _ (l .entries) (omega (arith, a .entries)) ∙ a .entries;
-        distances = lent-length _ _ _ (l .distances) (omega (arith, a .distances)) ∙ a .distances;
+        marks = length-lent _ _ _ (l .marks) (omega (arith, a .marks)) ∙ a .marks;
+        entries = length-lent _ _ _ (l .entries) (omega (arith, a .entries)) ∙ a .entries;
+        distances = length-lent _ _ _ (l .distances) (omega (arith, a .distances)) ∙ a .distances;
       }
   still-sized l a (Verdict t g code) s =
       record {
-        marks = lent-length _ _ _ (l .marks) (omega (arith, a .marks)) ∙ a .marks;
+        marks = length-lent _ _ _ (l .marks) (omega (arith, a .marks)) ∙ a .marks;
         entries = a .entries;
         distances = a .distances;
       }

@@ -1,35 +1,26 @@
 -- Whether a bucket is bad, place by place. Assumes nothing.
-use mathlib.Core.Path.{_≡_, refl, sym, ap, _∙_}
+use mathlib.Core.Path.{_≡_, sym, ap, _∙_}
 use mathlib.Core.Logic.{⊎-elim}
-use mathlib.Core.Bool.{Bool, true, false, not, _||_, cond, or-false}
+use mathlib.Core.Bool.{Bool, true, false, not, _||_, cond}
 use mathlib.Core.List.{[], _∷_}
 use Prim.Native.Nat.{ℕ, _+_, _-_, _*_, _≤_, _<_}
-use native.Mathlib.Nat.{le-refl, le-trans, suc-mul, mul-le-mul-right}
+use native.Mathlib.Nat.{le-refl}
 use native.Mathlib.Numerals.{add-one}
 use native.Mathlib.Omega.{arith}
 use lib.Dec.{eqb, ltb, leb}
 use lib.ListN.{length}
 use borrow.Author.Tests.{lt-ltb, le-ltb}
 use Rattle.theory.specs.Lists.{any, between}
-use Rattle.theory.proofs.Tests.{or-right, lt-or-le, leb-is-ltb}
+use Rattle.theory.proofs.Tests.{or-swap, or-right, lt-or-le, leb-is-ltb}
 use Rattle.theory.proofs.Lists.{any-append, any-one, any-none, any-cat-yes, between-suc, between-none}
+use Rattle.theory.proofs.Parts.{in-parts}
 use Rattle.scope.specs.Shape.{m}
 use Rattle.scope.specs.Tables.{Index, n, substringOf, start, idAt, badId, bad}
 use Rattle.walk.specs.Steps.{Lent}
 
--- part z of m parts, each w long, ends within them
-pub in-parts : (z m w : ℕ) → z < m → z * w + w ≤ m * w
-in-parts z m w h = le-trans (omega (arith, suc-mul z w)) (mul-le-mul-right w h)
-
 -- table z's part of the ids ends within them
 pub in-ids : (x : Index) → Lent x → (z : ℕ) → z < m (x .shape) → z * n x + n x ≤ length (x .ids)
 in-ids x l z h = let i = l .ids in omega (arith, in-parts z (m (x .shape)) (n x) h)
-
-or-swap : (a b c : Bool) → (a || b || c) ≡ (a || c || b)
-or-swap true b c = refl
-or-swap false true true = refl
-or-swap false true false = refl
-or-swap false false c = sym (or-false c)
 
 module _ (x : Index) (z v : ℕ) where
   -- the least id allowed at place p: one more than the id before it in the bucket, 0 at the first

@@ -11,15 +11,14 @@ use lib.Count.{ones}
 use lib.Dec.{eqb}
 use lib.ListN.{length, length-append, length-map}
 use Rattle.theory.specs.Lists.{cat, any, has, upto}
-use Rattle.theory.proofs.Lists.{any-append, any-one, any-none, any-map}
+use Rattle.theory.proofs.Lists.{any-append, any-one, any-none}
 use Rattle.theory.proofs.Counting.{upto-suc, count-le}
 use Rattle.scope.specs.declared.Refusal.{Refusal}
 use Rattle.scope.specs.declared.Refusal.the-variants.{BadBucket}
 use Rattle.scope.specs.Tables.{Index, n, bucket, bad}
 use Rattle.scope.specs.Walk.{Question, distanceOf}
 use Rattle.scope.specs.Refusals.{Rows, met, unless, markWords}
-use Rattle.scope.proofs.Rows.{unless-append, unless-none}
-use Rattle.scope.proofs.Walking.{all-clear, one-refuses}
+use Rattle.scope.proofs.Rows.{oneFits, unless-append, unless-none, met-any, all-clear, one-refuses}
 use Rattle.codes.specs.Marks.{isMarked}
 use Rattle.walk.specs.declared.Met.the-variants.{Clear, Refused}
 use Rattle.walk.specs.declared.Walk.{Walk}
@@ -37,11 +36,11 @@ refused-same : (f g : Refusal) → Refused f ≡ Refused g → f ≡ g
 refused-same f g e = cc
 
 -- the walk's outcome decides any answer over the same buckets
-pub walk-clear : (rows : Rows) → unless rows Refused Clear ≡ Clear → any (λ (row : Bool × Refusal). row .0) rows ≡ false
+pub walk-clear : (rows : Rows) → unless rows Refused Clear ≡ Clear → oneFits rows ≡ false
 walk-clear = all-clear Refused Clear clear-apart
 
 pub walk-refused : {A : Type 0} (refused : Refusal → A) (answer : A) (rows : Rows) (f : Refusal) → unless rows Refused Clear ≡ Refused f → unless rows refused answer ≡ refused f
-walk-refused = one-refuses Refused Clear clear-apart refused-same
+walk-refused refused answer rows f h = one-refuses Refused Clear clear-apart refused-same rows f h refused answer
 
 module _ (x : Index) where
   pub met-none : metIn x [] ≡ Clear
@@ -68,7 +67,7 @@ module _ (x : Index) where
   -- of clear buckets none is bad
   pub none-bad : (l : List (ℕ × ℕ)) → metIn x l ≡ Clear → any (λ b. bad x (b .0) (b .1)) l ≡ false
   unfolding metIn
-  none-bad l h = sym (any-map (λ (row : Bool × Refusal). row .0) _ l) ∙ walk-clear (met x l) h
+  none-bad l h = sym (met-any x l) ∙ walk-clear (met x l) h
 
 -- ---- buckets, one after the other
 

@@ -3,8 +3,8 @@ use mathlib.Core.Path.{_≡_, sym, ap, subst, _∙_}
 use mathlib.Core.Logic.{⊎-elim}
 use mathlib.Core.Bool.{Bool, true, false, _&&_, and-false}
 use mathlib.Core.List.{List}
-use Prim.Native.Nat.{ℕ, zero, suc, min, _+_, _*_, _≤_, _<_}
-use native.Mathlib.Nat.{le-refl, le-trans, eq-or-lt-of-le, min-eq-left}
+use Prim.Native.Nat.{ℕ, suc, min, _+_, _*_, _≤_, _<_}
+use native.Mathlib.Nat.{eq-or-lt-of-le, min-eq-left}
 use native.Mathlib.Decide.{le-ind}
 use native.Mathlib.Numerals.{add-one}
 use native.Mathlib.Omega.{arith}
@@ -12,9 +12,9 @@ use lib.Dec.{eqb, ltb, leb}
 use lib.ListN.{length, getD, length-append}
 use borrow.Author.Tests.{le-leb, lt-leb, ne-eqb}
 use Rattle.theory.specs.Lists.{firstFrom, count}
-use Rattle.theory.proofs.Tests.{either, lt-or-le, eq-or-ne}
-use Rattle.theory.proofs.Lists.{tab-cong, first-none, first-is}
-use Rattle.theory.proofs.Counting.{upto-gap, count-zero, count-cong, count-le}
+use Rattle.theory.proofs.Tests.{either, eq-or-ne}
+use Rattle.theory.proofs.Lists.{tab-cong, first-none, first-is, first-past, first-shift}
+use Rattle.theory.proofs.Counting.{upto-gap, count-never, count-cong, count-le}
 use Rattle.theory.proofs.Placing.{lower-suc, lower-zero}
 use Rattle.scope.specs.declared.Refusal.{Refusal}
 use Rattle.scope.specs.Shape.{q}
@@ -33,24 +33,7 @@ use Rattle.walk.proofs.Opening.{not-both, met-none, met-past, met-stays
 -- where nothing is marked, nothing is counted
 count-none : (marks : List ℕ) → ((i : ℕ) → isMarked marks i ≡ false) → (m : ℕ) (t : ℕ → Bool) → count (λ i. t i && isMarked marks i) m ≡ 0
 count-none marks none m t =
-    ap length (upto-gap (λ i. t i && isMarked marks i) 0 m (omega arith) (λ i _ _. rw (none i) (and-false (t i)))) ∙ count-zero (λ i. t i && isMarked marks i)
-
--- the first that passes is no earlier than numbers that fail
-first-from : (p : ℕ → Bool) (m i : ℕ) → i ≤ firstFrom p i m
-unfolding firstFrom
-first-from p zero i = le-refl i
-first-from p (suc m) i =
-    ⊎-elim (λ (e : p i ≡ true). rw e (le-refl i)) (λ (e : p i ≡ false). rw e (let l = first-from p m (suc i) in omega arith)) (either (p i))
-
-first-past : (p : ℕ → Bool) (m i R : ℕ) → R ≤ i + m → ((j : ℕ) → i ≤ j → j < R → p j ≡ false) → R ≤ firstFrom p i m
-unfolding firstFrom
-first-past p zero i R h f = le-trans h (omega (arith, first-from p zero i))
-first-past p (suc m) i R h f =
-    ⊎-elim (λ (l : i < R). later l (first-past p m (suc i) R (omega arith) (λ j a b. f j (omega arith) b)))
-    (λ (g : R ≤ i). le-trans g (first-from p (suc m) i)) (lt-or-le i R)
-  where
-    later : i < R → R ≤ firstFrom p (suc i) m → R ≤ firstFrom p i (suc m)
-    later l b = rw (f i (le-refl i) l) b
+    count-never (λ i. t i && isMarked marks i) m (λ i _. rw (none i) (and-false (t i)))
 
 -- ---- one step
 
@@ -196,12 +179,6 @@ module _ (ask : Question) (k top : ℕ) (w : Walk) (marks tally : List ℕ) wher
               le-ind (λ (j : ℕ). metIn (ask .index) (opened ask j) ≡ Refused f) m (λ j _ g. rw opened-suc (met-stays (ask .index) (opened ask j) (opens ask j) f g)) N b
 
 -- ---- where the searches stop
-
-first-shift : (p p′ : ℕ → Bool) → ((R : ℕ) → p (suc R) ≡ p′ R) → (m i : ℕ) → firstFrom p (suc i) m ≡ firstFrom p′ i m + 1
-unfolding firstFrom
-first-shift p p′ h zero i = sym (add-one i)
-first-shift p p′ h (suc m) i =
-    ⊎-elim (λ (e : p′ i ≡ true). rw (h i, e) (sym (add-one i))) (λ (e : p′ i ≡ false). rw (h i, e) (first-shift p p′ h m (suc i))) (either (p′ i))
 
 module _ (ask : Question) where
   -- K tested entries are near enough after step R: before any step, only none is

@@ -7,7 +7,7 @@ use lib.ListN.{getD}
 use lib.Bits.{bitXor}
 use lib.Count.{ones}
 use Rattle.scope.specs.Codes.{distance, codeOf}
-use Rattle.codes.proofs.Codes.{distance-none, distance-entry, distance-le}
+use Rattle.scope.proofs.Codes.{distance-none, distance-entry, distance-le}
 use Rattle.codes.proofs.distance.Statement.{statement}
 use Rattle.codes.proofs.distance.Tie as tie
 

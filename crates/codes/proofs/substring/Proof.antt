@@ -9,7 +9,7 @@ use lib.ListN.{getD}
 use lib.Pow.{pow-pos, pow-mono, shl-exact}
 use Rattle.theory.proofs.Numbers.{one-shl}
 use Rattle.scope.specs.Codes.{substring}
-use Rattle.codes.proofs.Codes.{substring-lt, substring-word, substring-cross}
+use Rattle.scope.proofs.Codes.{substring-lt, substring-word, substring-cross}
 use Rattle.codes.proofs.substring.Statement.{statement}
 use Rattle.codes.proofs.substring.Tie as tie
 

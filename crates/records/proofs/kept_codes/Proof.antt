@@ -3,7 +3,7 @@ use borrow.Author.Needs.{needs}
 use lib.Seq.{length-take-le, take-all}
 use mathlib.Core.Path.{sym}
 use native.Mathlib.Omega.{arith}
-use Rattle.records.proofs.Arms.{product-fits}
+use Rattle.theory.proofs.Numbers.{product-lt}
 use Rattle.records.proofs.kept_codes.Statement.{statement}
 use Rattle.records.proofs.kept_codes.Tie as tie
 
@@ -14,7 +14,7 @@ cast-n-2 : tie.Need-cast-n-2
 cast-n-2 c = search needs
 
 mul-n : tie.Need-mul-n
-mul-n c = record { fits = product-fits (c .before .before .args .session .entries) (c .before .before .args .session .words) (omega (arith, c .before .struct-known .given)) (omega (arith, c .struct-known2 .given)) }
+mul-n c = record { fits = product-lt 32 32 (omega (arith, c .before .struct-known .given)) (omega (arith, c .struct-known2 .given)) }
 
 slice-aggregate-result : tie.Need-slice-aggregate-result
 slice-aggregate-result c =

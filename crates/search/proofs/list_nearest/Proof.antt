@@ -5,12 +5,12 @@ use Prim.Native.Nat.{ℕ}
 use native.Mathlib.Omega.{arith}
 use lib.ListN.{length}
 use Rattle.theory.specs.Lists.{over, padded}
+use Rattle.theory.proofs.Lists.{over-padded}
 use Rattle.scope.specs.declared.Found.the-variants.{Listed}
 use Rattle.scope.specs.Walk.{Question}
 use Rattle.scope.proofs.Shapes.{facts}
 use Rattle.scope.proofs.Ends.{end-is}
 use Rattle.walk.specs.Steps.{asks}
-use Rattle.search.proofs.Ending
 use Rattle.search.proofs.Listing
 use borrow.Author.Needs.{needs}
 use Rattle.search.proofs.list_nearest.Statement.{statement}
@@ -116,7 +116,7 @@ returns-2 c =
     let s = start-of at-nearest in
     let ended = at-nearest .nearest .ensures .clear (at-enum-told .enum-told .given .1) in
     end-is (ap (λ (a : ℕ). Listed (record { answers = a; opened = at-nearest .nearest .result .opened; tested = at-nearest .nearest .result .tested })) (c .smaller .ensures))
-    (at-rank .rank .ensures .cleared ∙ Ending.wiped-all _ _ (ended .long)) (at-rank .rank .ensures .listed) (at-rank .rank .ensures .measured)
+    (at-rank .rank .ensures .cleared ∙ over-padded _ [] _ (ended .long)) (at-rank .rank .ensures .listed) (at-rank .rank .ensures .measured)
     ∙ sym (Listing.nearest-listed (Ask s) (s .args .places) (s .pre .1 .0 .0) _ _ _ (at-nearest .nearest .ensures) (s .args .marks .now) _ _ (s .pre .1 .1 .0) (at-enum-told .enum-told .given .1))
 
 pub list-nearest-spec : {M : Type 1} → statement M

@@ -5,10 +5,10 @@ use Prim.Native.Nat.{ℕ}
 use native.Mathlib.Omega.{arith}
 use lib.ListN.{length}
 use Rattle.theory.specs.Lists.{over, padded}
+use Rattle.theory.proofs.Lists.{over-padded}
 use Rattle.scope.specs.Walk.{Question}
 use Rattle.scope.proofs.Ends.{end-is}
 use Rattle.walk.specs.Steps.{asks}
-use Rattle.search.proofs.Ending
 use Rattle.search.proofs.Listing
 use borrow.Author.Needs.{needs}
 use Rattle.search.proofs.list_within.Statement.{statement}
@@ -116,7 +116,7 @@ returns-2 c =
     let at-smaller : tie.After-smaller = search in
     let s = start-of at-within in
     let ended = at-within .within .ensures .clear (at-enum-told .enum-told .given .1) in
-    end-is refl (at-rank .rank .ensures .cleared ∙ Ending.wiped-all _ _ (ended .long)) (at-rank .rank .ensures .listed) (at-rank .rank .ensures .measured)
+    end-is refl (at-rank .rank .ensures .cleared ∙ over-padded _ [] _ (ended .long)) (at-rank .rank .ensures .listed) (at-rank .rank .ensures .measured)
     ∙ sym (Listing.within-many (Ask s) (s .args .r) _ _ _ (at-within .within .ensures) (s .args .marks .now) _ _ (s .pre .1 .1 .0) _ _ (at-smaller .smaller .ensures) (at-smaller2 .smaller2 .ensures) (at-enum-told .enum-told .given .1) (c .if1 .taken))
 
 same-length-9 : tie.Need-same-length-9
@@ -140,7 +140,7 @@ returns-3 c =
     let at-smaller : tie.After-smaller = search in
     let s = start-of at-within in
     let ended = at-within .within .ensures .clear (at-enum-told .enum-told .given .1) in
-    end-is refl (at-rank .rank .ensures .cleared ∙ Ending.wiped-all _ _ (ended .long)) (at-rank .rank .ensures .listed) (at-rank .rank .ensures .measured)
+    end-is refl (at-rank .rank .ensures .cleared ∙ over-padded _ [] _ (ended .long)) (at-rank .rank .ensures .listed) (at-rank .rank .ensures .measured)
     ∙ sym (Listing.within-listed (Ask s) (s .args .r) _ _ _ (at-within .within .ensures) (s .args .marks .now) _ _ (s .pre .1 .1 .0) _ _ (at-smaller .smaller .ensures) (at-smaller2 .smaller2 .ensures) (at-enum-told .enum-told .given .1) (c .before .before .if1 .left))
 
 pub list-within-spec : {M : Type 1} → statement M

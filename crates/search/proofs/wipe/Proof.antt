@@ -1,6 +1,7 @@
 -- `search::wipe` meets its contract. Assumes nothing.
 use mathlib.Core.Path.{refl, _∙_}
-use Rattle.search.proofs.Ending
+use mathlib.Core.List.{[]}
+use Rattle.theory.proofs.Lists.{over-padded}
 use borrow.Author.Needs.{needs}
 use Rattle.search.proofs.wipe.Statement.{statement}
 use Rattle.search.proofs.wipe.Tie as tie
@@ -25,10 +26,10 @@ same-length-3 c = search needs
 
 returns : tie.Need-returns
 returns c =
-    let at-wipe : tie.After-wipe = search in
-    let at-clear : tie.After-clear = search in
-    let s : tie.Start = search in
-    (at-clear .clear .ensures ∙ Ending.wiped-all _ (s .args .marks .now) refl, (at-wipe .wipe .ensures, c .before .before .wipe2 .ensures))
+    let s = c .before .before .before .before .before .before .before .before .before .before .before .before .before .before .before in
+    let at-clear = c .before .before .before .before .before .before .before .before .before .before .clear in
+    let at-wipe = c .before .before .before .before .before .before .wipe in
+    (at-clear .ensures ∙ over-padded _ [] (s .args .marks .now) refl, (at-wipe .ensures, c .before .before .wipe2 .ensures))
 
 pub wipe-spec : {M : Type 1} → statement M
 wipe-spec =

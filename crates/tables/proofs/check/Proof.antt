@@ -3,7 +3,7 @@ use borrow.Author.Needs.{needs}
 use mathlib.Core.Path.{sym, ap, _∙_}
 use mathlib.Core.Bool.{Bool, cond}
 use Rattle.scope.specs.declared.Checked.the-variants.{Yes, No}
-use Rattle.tables.proofs.Unrefused.{build-answer, check-answer}
+use Rattle.tables.proofs.Answers.{build-answer, check-answer}
 use Rattle.tables.proofs.check.Statement.{statement}
 use Rattle.tables.proofs.check.Tie as tie
 

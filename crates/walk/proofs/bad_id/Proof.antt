@@ -1,8 +1,8 @@
 -- `walk::bad_id` meets its contract. Assumes nothing.
 use native.Mathlib.Omega.{arith}
 use borrow.Author.Tests.{le-leb, lt-leb, lt-ltb, le-ltb}
+use Rattle.theory.proofs.Parts.{in-parts}
 use Rattle.scope.proofs.Shapes.{facts, in-code}
-use Rattle.walk.proofs.Buckets.{in-parts}
 use borrow.Author.Needs.{needs}
 use Rattle.walk.proofs.bad_id.Statement.{statement}
 use Rattle.walk.proofs.bad_id.Tie as tie

@@ -9,7 +9,7 @@ use lib.Bits.{bitXor}
 use lib.Count.{ones}
 use lib.Dec.{eqb}
 use lib.ListN.{length}
-use Rattle.codes.proofs.Codes.{substring-lt}
+use Rattle.scope.proofs.Codes.{substring-lt}
 use Rattle.scope.specs.Shape.{size}
 use Rattle.scope.specs.Walk.{Question}
 use Rattle.scope.proofs.Shapes.{facts, few-buckets}

@@ -3,7 +3,7 @@ use mathlib.Core.Path.{_≡_, refl, sym, _∙_}
 use Prim.Native.Nat.{ℕ, _*_, _<_}
 use native.Mathlib.Omega.{arith}
 use lib.Dec.{ltb}
-use Rattle.codes.proofs.Codes.{distance-le}
+use Rattle.scope.proofs.Codes.{distance-le}
 use Rattle.scope.specs.Codes.{distance, codeOf}
 use Rattle.walk.specs.Steps.{distanceIn}
 use Rattle.walk.proofs.Testing

@@ -10,13 +10,14 @@ use lib.Dec.{eqb}
 use lib.ListN.{length}
 use Rattle.theory.specs.Lists.{between, has}
 use Rattle.theory.proofs.Lists.{between-suc, between-none, has-append, has-one, has-none}
+use Rattle.theory.proofs.Parts.{in-parts}
 use Rattle.scope.specs.Tables.{Index, index, n, start, idAt}
 use Rattle.scope.specs.Refusals.{markWords}
 use Rattle.scope.proofs.Shapes.{facts, few-buckets}
 use Rattle.scope.proofs.Walking.{Good, good}
 use Rattle.walk.specs.declared.Walk.{Walk}
 use Rattle.walk.specs.Steps.{distanceIn, Tests}
-use Rattle.walk.proofs.Buckets.{in-parts, in-ids}
+use Rattle.walk.proofs.Buckets.{in-ids}
 use Rattle.walk.proofs.Testing
 use borrow.Author.Needs.{needs}
 use Rattle.walk.proofs.Walk.test_all.Statement.{statement}

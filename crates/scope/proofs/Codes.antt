@@ -13,14 +13,14 @@ use lib.Count.{ones}
 use Rattle.theory.specs.Lists.{sum}
 use Rattle.theory.proofs.Sums.{sum-cong, sum-split, sum-cuts, sum-zero, sum-le}
 use Rattle.theory.proofs.Numbers.{number, number-cong, number-lt, number-append, number-digits, number-xor, differ-lt, differ-self, differ-sym}
 use Rattle.scope.specs.declared.Shape.{Shape}
 use Rattle.scope.specs.Shape.{q, listed, m, firstBit, len}
 use Rattle.scope.specs.Codes.{bit, distance, substring, codeOf}
 use Rattle.scope.proofs.Shapes.{facts}
 
 pub bit-lt : (x : List ℕ) (j : ℕ) → bit x j < 2
 unfolding bit
-bit-lt x j = mod-lt (getD x (j / 64) 0 / 2 ^ (j % 64)) (zero-lt-suc 1)
+bit-lt x j = mod-lt _ (zero-lt-suc 1)
 
 -- ---- substrings
 
