@@ -23,7 +23,7 @@ fits c =
 
 -- the start, seen from behind a later call
 abbrev start-of : tie.After-within → tie.Start
-start-of c = c .before .before .before .before .before .before .before .before .before .before .before .before .before
+start-of c = search
 
 query-words-requires : tie.Need-query-words-requires
 query-words-requires c κs = search needs

@@ -21,7 +21,7 @@ Ask c = asks (c .args .shape) (c .args .stars .now) (c .args .codes .now) (c .ar
 
 -- the start, seen from behind a later call
 abbrev start-of : tie.After-nearest → tie.Start
-start-of c = c .before .before .before .before .before .before .before .before .before .before .before .before .before .before .before .before
+start-of c = search
 
 -- the walk leaves the marks as long as they were
 long : (c : tie.After-nearest) → length (c .nearest .last .1 .1 .1 .1 .1 .1 .1 .0) ≡ length (start-of c .args .marks .now)

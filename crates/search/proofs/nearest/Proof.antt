@@ -25,7 +25,7 @@ fit c e h f = Refusing.fit (Ask c) (0 ∷ []) (c .args .marks .now) (sym h ∙ f
 
 -- the start, seen from behind a later call
 abbrev start-of : tie.After-refused → tie.Start
-start-of c = c .before .before .before .before .before .before .before .before .before .before
+start-of c = search
 
 refused-requires : tie.Need-refused-requires
 refused-requires c κs = search needs

@@ -34,7 +34,7 @@ fit c limit e m h f = Refusing.fit (Ask c) (max (c .args .t) (c .args .g) ∷ []
 
 -- the start, seen from behind a later call
 abbrev start-of : tie.After-refused → tie.Start
-start-of c = c .before .before .before .before .before .before .before .before .before
+start-of c = search
 
 larger-requires : tie.Need-larger-requires
 larger-requires c κs = search needs

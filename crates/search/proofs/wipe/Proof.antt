@@ -26,10 +26,10 @@ same-length-3 c = search needs
 
 returns : tie.Need-returns
 returns c =
-    let s = c .before .before .before .before .before .before .before .before .before .before .before .before .before .before .before in
-    let at-clear = c .before .before .before .before .before .before .before .before .before .before .clear in
-    let at-wipe = c .before .before .before .before .before .before .wipe in
-    (at-clear .ensures ∙ over-padded _ [] (s .args .marks .now) refl, (at-wipe .ensures, c .before .before .wipe2 .ensures))
+    let at-wipe : tie.After-wipe = search in
+    let at-clear : tie.After-clear = search in
+    let s : tie.Start = search in
+    (at-clear .clear .ensures ∙ over-padded _ [] (s .args .marks .now) refl, (at-wipe .wipe .ensures, c .before .before .wipe2 .ensures))
 
 pub wipe-spec : {M : Type 1} → statement M
 wipe-spec =

@@ -26,7 +26,7 @@ fit c e h f = Refusing.fit (Ask c) (c .args .r ∷ []) (c .args .marks .now) (sy
 
 -- the start, seen from behind a later call
 abbrev start-of : tie.After-refused → tie.Start
-start-of c = c .before .before .before .before .before .before .before .before .before .before
+start-of c = search
 
 refused-requires : tie.Need-refused-requires
 refused-requires c κs = search needs

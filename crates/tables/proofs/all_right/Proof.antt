@@ -24,7 +24,9 @@ abbrev μ-loop : tie.MeasureT-loop
 μ-loop shape stars codes starts ids n m z₀ z = m - z
 
 tables-requires : tie.Need-tables-requires Inv-loop μ-loop
-tables-requires c κs = build-fits _ (c .before .before .before .before .pre) .shape
+tables-requires c κs =
+    let s : tie.Start Inv-loop μ-loop = search in
+    build-fits _ (s .pre) .shape
 
 loop-holds : tie.Need-loop-holds Inv-loop μ-loop
 loop-holds c = Parts.right-none _
@@ -39,23 +41,27 @@ record Few (m z : ℕ) : Type 0 where
 
 few : (c : tie.In-loop Inv-loop μ-loop) → Few (shape.m (c .before .before .before .before .before .before .before .args .shape)) (c .before .loop .z)
 few c =
-    let s = c .before .before .before .before .before .before .before in
+    let s : tie.Start Inv-loop μ-loop = search in
     record { tables = facts (s .args .shape) (build-fits (checked s) (s .pre) .shape) .few-tables; one = omega (arith, c .loop-test .taken, c .before .before .tables .ensures) }
 
 turn : (c : tie.After-starts-before2 Inv-loop μ-loop) → let s = c .before .before .before .before .before .before .before .before .before in let l = c .before .before .before .loop in
     Turn (checked s) (length (s .args .starts .now)) (length (s .args .ids .now)) (l .z) (c .before .starts-before .result) (c .starts-before2 .result)
 turn c =
-    let s = c .before .before .before .before .before .before .before .before .before in
+    let s : tie.Start Inv-loop μ-loop = search in
     Parts.turn (checked s) (build-fits (checked s) (s .pre)) _ _ _ _ _ refl refl (few (c .before .before) .one) (c .before .starts-before .ensures) (c .starts-before2 .ensures)
 
 starts-before-requires : tie.Need-starts-before-requires Inv-loop μ-loop
-starts-before-requires c κs = (build-fits _ (c .before .before .before .before .before .before .before .pre) .shape, c .before .loop .inv .upto)
+starts-before-requires c κs =
+    let s : tie.Start Inv-loop μ-loop = search in
+    (build-fits _ (s .pre) .shape, c .before .loop .inv .upto)
 
 add-starts-before : tie.Need-add-starts-before Inv-loop μ-loop
 add-starts-before c = let t = few (c .before) in omega arith
 
 starts-before-requires-2 : tie.Need-starts-before-requires-2 Inv-loop μ-loop
-starts-before-requires-2 c κs = let t = few (c .before) in (build-fits _ (c .before .before .before .before .before .before .before .before .pre) .shape, omega arith)
+starts-before-requires-2 c κs =
+    let s : tie.Start Inv-loop μ-loop = search in
+    let t = few (c .before) in (build-fits _ (s .pre) .shape, omega arith)
 
 mul-at : tie.Need-mul-at Inv-loop μ-loop
 mul-at c = let t = turn c in omega arith
@@ -89,16 +95,19 @@ part-check-table-end-2 c = let t = turn (c .before) in omega arith
 
 check-table-requires : tie.Need-check-table-requires Inv-loop μ-loop
 check-table-requires c κs =
-    let s = c .before .before .before .before .before .before .before .before .before .before .before in
-    (Parts.handed-table (checked s) _ (build-fits (checked s) (s .pre)) (few (c .before .before .before .before) .one), Parts.parts-long (checked s) _ _ _ _ _ (turn (c .before .before)))
+    let in-loop : tie.In-loop Inv-loop μ-loop = search in
+    let s : tie.Start Inv-loop μ-loop = search in
+    (Parts.handed-table (checked s) _ (build-fits (checked s) (s .pre)) (few in-loop .one), Parts.parts-long (checked s) _ _ _ _ _ (turn (c .before .before)))
 
 returns : tie.Need-returns Inv-loop μ-loop
 returns c =
-    let l = c .before .before .before .before .before .before .before .loop in
+    let at-starts-before2 : tie.After-starts-before2 Inv-loop μ-loop = search in
+    let in-loop : tie.In-loop Inv-loop μ-loop = search in
+    let l : tie.At-loop Inv-loop μ-loop = search in
+    let s : tie.Start Inv-loop μ-loop = search in
     let call = c .before .check-table in
-    let s = c .before .before .before .before .before .before .before .before .before .before .before .before .before in
     ⊎-elim
-    (λ (e : sound (checked s) ≡ true). both-ways (sym (Parts.right-part (checked s) _ _ (l .z) _ _ (turn (c .before .before .before .before)) (few (c .before .before .before .before .before .before) .one) e) ∙ sym (call .ensures) ∙ not-true _ (c .if1 .taken)))
+    (λ (e : sound (checked s) ≡ true). both-ways (sym (Parts.right-part (checked s) _ _ (l .loop .z) _ _ (turn at-starts-before2) (few in-loop .one) e) ∙ sym (call .ensures) ∙ not-true _ (c .if1 .taken)))
     (λ (e : sound (checked s) ≡ false). sym e) (either (sound (checked s)))
 
 add-z : tie.Need-add-z Inv-loop μ-loop
@@ -109,9 +118,11 @@ loop-less c = search needs
 
 loop-again : tie.Need-loop-again Inv-loop μ-loop
 loop-again c =
-    let l = c .before .before .before .before .before .before .before .loop in
+    let at-starts-before2 : tie.After-starts-before2 Inv-loop μ-loop = search in
+    let in-loop : tie.In-loop Inv-loop μ-loop = search in
+    let l : tie.At-loop Inv-loop μ-loop = search in
     let call = c .before .check-table in
-    Parts.right-next _ _ _ (l .z) _ _ (turn (c .before .before .before .before)) (few (c .before .before .before .before .before .before) .one) (l .inv) (sym (call .ensures) ∙ not-false _ (c .if1 .left))
+    Parts.right-next _ _ _ (l .loop .z) _ _ (turn at-starts-before2) (few in-loop .one) (l .loop .inv) (sym (call .ensures) ∙ not-false _ (c .if1 .left))
 
 returns-2 : tie.Need-returns-2 Inv-loop μ-loop
 returns-2 c =

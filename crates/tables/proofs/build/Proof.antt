@@ -19,13 +19,17 @@ same-length-2 : tie.Need-same-length-2
 same-length-2 c = search needs
 
 returns : tie.Need-returns
-returns c = sym (build-refused _ _ (build-answer _ _ _ (c .before .before .before .refused-early .ensures) (c .before .early .given .1)))
+returns c =
+    let at-refused-early : tie.After-refused-early = search in
+    sym (build-refused _ _ (build-answer _ _ _ (at-refused-early .refused-early .ensures) (c .before .early .given .1)))
 
 enum-told : tie.Need-enum-told
 enum-told c = search needs
 
 fill-requires : tie.Need-fill-requires
-fill-requires c κs = build-answer _ _ _ (c .before .before .before .before .refused-early .ensures) (c .before .before .enum-told .given .1)
+fill-requires c κs =
+    let at-refused-early : tie.After-refused-early = search in
+    build-answer _ _ _ (at-refused-early .refused-early .ensures) (c .before .before .enum-told .given .1)
 
 same-length-3 : tie.Need-same-length-3
 same-length-3 c = search needs
@@ -35,8 +39,10 @@ same-length-4 c = search needs
 
 returns-2 : tie.Need-returns-2
 returns-2 c =
-    let call = c .before .before .before .before .fill in
-    end-done _ _ _ (build-answer _ _ _ (c .before .before .before .before .before .before .before .before .before .refused-early .ensures) (c .before .before .before .before .before .before .before .enum-told .given .1)) (call .ensures .0) (call .ensures .1)
+    let call : tie.After-fill = search in
+    let at-enum-told : tie.After-enum-told = search in
+    let at-refused-early : tie.After-refused-early = search in
+    end-done _ _ _ (build-answer _ _ _ (at-refused-early .refused-early .ensures) (at-enum-told .enum-told .given .1)) (call .fill .ensures .0) (call .fill .ensures .1)
 
 pub build-spec : {M : Type 1} → statement M
 build-spec =

@@ -20,7 +20,9 @@ abbrev μ-loop : tie.MeasureT-loop
 μ-loop shape stars codes starts₀ ids₀ n m z₀ starts ids z = m - z
 
 tables-requires : tie.Need-tables-requires Inv-loop μ-loop
-tables-requires c κs = build-fits _ (c .before .before .before .before .pre) .shape
+tables-requires c κs =
+    let s : tie.Start Inv-loop μ-loop = search in
+    build-fits _ (s .pre) .shape
 
 loop-holds : tie.Need-loop-holds Inv-loop μ-loop
 loop-holds c = Parts.filled-none _
@@ -35,26 +37,30 @@ record Few (m z : ℕ) : Type 0 where
 
 few : (c : tie.In-loop Inv-loop μ-loop) → Few (shape.m (c .before .before .before .before .before .before .before .args .shape)) (c .before .loop .z)
 few c =
-    let s = c .before .before .before .before .before .before .before in
+    let s : tie.Start Inv-loop μ-loop = search in
     record { tables = facts (s .args .shape) (build-fits (at-entry s) (s .pre) .shape) .few-tables; one = omega (arith, c .loop-test .taken, c .before .before .tables .ensures) }
 
 turn : (c : tie.After-starts-before2 Inv-loop μ-loop) → let s = c .before .before .before .before .before .before .before .before .before in let l = c .before .before .before .loop in
     Turn (at-entry s) (length (l .starts)) (length (l .ids)) (l .z) (c .before .starts-before .result) (c .starts-before2 .result)
 turn c =
-    let s = c .before .before .before .before .before .before .before .before .before in
+    let l : tie.At-loop Inv-loop μ-loop = search in
+    let s : tie.Start Inv-loop μ-loop = search in
     let f = build-fits (at-entry s) (s .pre) in
-    let l = c .before .before .before .loop in
-    Parts.turn (at-entry s) f _ _ _ _ _ (Parts.filled-starts _ f _ _ _ (l .inv)) (Parts.filled-ids _ f _ _ _ (l .inv)) (few (c .before .before) .one)
+    Parts.turn (at-entry s) f _ _ _ _ _ (Parts.filled-starts _ f _ _ _ (l .loop .inv)) (Parts.filled-ids _ f _ _ _ (l .loop .inv)) (few (c .before .before) .one)
     (c .before .starts-before .ensures) (c .starts-before2 .ensures)
 
 starts-before-requires : tie.Need-starts-before-requires Inv-loop μ-loop
-starts-before-requires c κs = (build-fits _ (c .before .before .before .before .before .before .before .pre) .shape, c .before .loop .inv .upto)
+starts-before-requires c κs =
+    let s : tie.Start Inv-loop μ-loop = search in
+    (build-fits _ (s .pre) .shape, c .before .loop .inv .upto)
 
 add-starts-before : tie.Need-add-starts-before Inv-loop μ-loop
 add-starts-before c = let t = few (c .before) in omega arith
 
 starts-before-requires-2 : tie.Need-starts-before-requires-2 Inv-loop μ-loop
-starts-before-requires-2 c κs = let t = few (c .before) in (build-fits _ (c .before .before .before .before .before .before .before .before .pre) .shape, omega arith)
+starts-before-requires-2 c κs =
+    let s : tie.Start Inv-loop μ-loop = search in
+    let t = few (c .before) in (build-fits _ (s .pre) .shape, omega arith)
 
 mul-at : tie.Need-mul-at Inv-loop μ-loop
 mul-at c = let t = turn c in omega arith
@@ -88,8 +94,9 @@ part-build-table-end-2 c = let t = turn (c .before) in omega arith
 
 build-table-requires : tie.Need-build-table-requires Inv-loop μ-loop
 build-table-requires c κs =
-    let s = c .before .before .before .before .before .before .before .before .before .before .before in
-    (Parts.handed-table (at-entry s) _ (build-fits (at-entry s) (s .pre)) (few (c .before .before .before .before) .one), Parts.parts-long (at-entry s) _ _ _ _ _ (turn (c .before .before)))
+    let in-loop : tie.In-loop Inv-loop μ-loop = search in
+    let s : tie.Start Inv-loop μ-loop = search in
+    (Parts.handed-table (at-entry s) _ (build-fits (at-entry s) (s .pre)) (few in-loop .one), Parts.parts-long (at-entry s) _ _ _ _ _ (turn (c .before .before)))
 
 add-z : tie.Need-add-z Inv-loop μ-loop
 add-z c = search needs
@@ -99,21 +106,27 @@ loop-less c = search needs
 
 loop-again : tie.Need-loop-again Inv-loop μ-loop
 loop-again c =
-    let s = c .before .before .before .before .before .before .before .before .before .before .before .before .before .before .before .before in
-    let l = c .before .before .before .before .before .before .before .before .before .before .loop in
-    let call = c .before .before .before .before .build-table in
-    Parts.filled-next (at-entry s) _ _ _ _ _ _ (l .z) _ _ (l .inv) (turn (c .before .before .before .before .before .before .before)) (few (c .before .before .before .before .before .before .before .before .before) .one)
-    (call .ensures .0 ∙ Parts.starts-same (at-entry s) (l .z)) (call .ensures .1 ∙ Parts.ids-same (at-entry s) (l .z))
+    let call : tie.After-build-table Inv-loop μ-loop = search in
+    let at-starts-before2 : tie.After-starts-before2 Inv-loop μ-loop = search in
+    let in-loop : tie.In-loop Inv-loop μ-loop = search in
+    let l : tie.At-loop Inv-loop μ-loop = search in
+    let s : tie.Start Inv-loop μ-loop = search in
+    Parts.filled-next (at-entry s) _ _ _ _ _ _ (l .loop .z) _ _ (l .loop .inv) (turn at-starts-before2) (few in-loop .one)
+    (call .build-table .ensures .0 ∙ Parts.starts-same (at-entry s) (l .loop .z)) (call .build-table .ensures .1 ∙ Parts.ids-same (at-entry s) (l .loop .z))
 
 same-length : tie.Need-same-length Inv-loop μ-loop
-same-length c = Parts.filled-starts _ (build-fits _ (c .before .before .before .before .before .before .before .pre)) _ _ _ (c .before .loop .inv)
+same-length c =
+    let s : tie.Start Inv-loop μ-loop = search in
+    Parts.filled-starts _ (build-fits _ (s .pre)) _ _ _ (c .before .loop .inv)
 
 same-length-2 : tie.Need-same-length-2 Inv-loop μ-loop
-same-length-2 c = Parts.filled-ids _ (build-fits _ (c .before .before .before .before .before .before .before .pre)) _ _ _ (c .before .loop .inv)
+same-length-2 c =
+    let s : tie.Start Inv-loop μ-loop = search in
+    Parts.filled-ids _ (build-fits _ (s .pre)) _ _ _ (c .before .loop .inv)
 
 returns : tie.Need-returns Inv-loop μ-loop
 returns c =
-    let s = c .before .before .before .before .before .before .before in
+    let s : tie.Start Inv-loop μ-loop = search in
     Parts.filled-all _ (build-fits (at-entry s) (s .pre)) _ _ _ (c .before .loop .inv) (omega (arith, c .before .before .tables .ensures, c .loop-test .left, c .before .loop .inv .upto))
 
 pub fill-spec : {M : Type 1} → statement M

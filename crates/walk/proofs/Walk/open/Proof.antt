@@ -14,7 +14,7 @@ Ask c = asks (c .args .shape) (c .args .stars .now) (c .args .codes .now) (c .ar
 
 -- the start, seen from behind a later call
 abbrev start-of : tie.After-bad-bucket → tie.Start
-start-of c = c .before .before .before .before .before .before .before .before .before .before
+start-of c = search
 
 bad-bucket-requires : tie.Need-bad-bucket-requires
 bad-bucket-requires c κs =

@@ -50,7 +50,7 @@ Ask c = asks (c .args .shape) (c .args .stars .now) (c .args .codes .now) (c .ar
 
 -- the start, seen from behind a later call
 abbrev start-of : tie.After-query-substring Inv-loop μ-loop → tie.Start Inv-loop μ-loop
-start-of c = c .before .before .before .before .before .before .before .before
+start-of c = search
 
 query-substring-requires : tie.Need-query-substring-requires Inv-loop μ-loop
 query-substring-requires c κs =

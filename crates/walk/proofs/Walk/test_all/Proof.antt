@@ -61,7 +61,7 @@ sound c = good (X c) (c .args .z) (c .args .v) (c .pre .1 .1 .0)
 
 -- the start, seen from behind a later call
 abbrev start-of : tie.After-start2 Inv-loop μ-loop → tie.Start Inv-loop μ-loop
-start-of c = c .before .before .before .before .before .before .before .before .before
+start-of c = search
 
 start-requires : tie.Need-start-requires Inv-loop μ-loop
 start-requires c κs =
