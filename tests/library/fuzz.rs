@@ -1,5 +1,4 @@
 //! The comparison under a coverage-guided fuzzer: libFuzzer hands over bytes, they make one call, and a difference or a changed guard value ends the run.
-#![no_main]
 mod calls;
 mod library;
 mod makers;
