@@ -1,2 +1,3 @@
--- Marks, as the searches lend them to the leaves.
+-- Marks and distances, as the searches hand them to the leaves.
+pub mod Distances
 pub mod Marks

@@ -1,4 +1,4 @@
-// Leaves over 64-bit words: distance, substrings, marks.
+// Leaves over 64-bit words: distance, substrings, marks. And zeros, over marks and over lists of numbers.
 ghost use mathlib.Core.Path.{_≡_};
 ghost use mathlib.Core.List.{[]};
 ghost use Prim.Native.Nat.{_+_, _*_, _≤_, _<_};
@@ -6,12 +6,13 @@ ghost use lib.ListN.{length};
 ghost use Rattle.theory.specs.Lists.{over, padded};
 ghost use Rattle.scope.specs.Codes as spec;
 ghost use Rattle.scope.specs.Codes.{codeOf};
+ghost use Rattle.codes.specs.Distances.{distanceFrom};
 ghost use Rattle.codes.specs.Marks.{isMarked, withMark};
 
 // How many bits of entry i's code and the query differ.
 pub fn distance(codes: &[u64], i: usize, w: usize, query: &[u64]) -> u32
     requires { ⌜ (w ≤ 4) × (i * w + w ≤ length (now codes)) × (w ≤ length (now query)) ⌝ }
-    ensures { λ r. ⌜ r ≡ spec.distance (64 * w) (codeOf w (now (codes .entry)) i) (now (query .entry)) ⌝ }
+    ensures { λ r. ⌜ r ≡ distanceFrom w (now (codes .entry)) (now (query .entry)) i ⌝ }
 {
     let at = i * w;
     let mut r: u32 = 0;
@@ -75,5 +76,17 @@ pub fn clear(marks: &mut [u64], n: usize)
     while k < n {
         marks[k] = 0;
         k += 1;
+    }
+}
+
+// Writes zeros to the first places of a list.
+pub fn wipe(list: &mut [u32], places: usize)
+    requires { ⌜ places ≤ length (now list) ⌝ }
+    ensures { λ _. ⌜ now (list .exit) ≡ over (padded places []) (now (list .entry)) ⌝ }
+{
+    let mut p = 0;
+    while p < places {
+        list[p] = 0;
+        p += 1;
     }
 }

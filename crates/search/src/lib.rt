@@ -73,8 +73,8 @@ fn wipe(places: usize, marks: &mut [u64], entries: &mut [u32], distances: &mut [
 {
     let words = marks.len();
     codes::clear(marks, words);
-    ranking::wipe(entries, places);
-    ranking::wipe(distances, places);
+    codes::wipe(entries, places);
+    codes::wipe(distances, places);
 }
 
 // Lists the `places` nearest entries, where none of refusals 1 to 5 fits. The marks are the words that n entries need; the tally is of zeros.

@@ -9,8 +9,7 @@ use lib.Dec.{eqb, ltb, leb}
 use lib.ListN.{length}
 use Rattle.theory.specs.Lists.{first, tab, upto, count, any, has}
 use Rattle.scope.specs.declared.Shape.{Shape}
-use Rattle.scope.specs.Codes.{distance, codeOf}
-use Rattle.scope.specs.Shape.{q, listed, m, startsBefore}
+use Rattle.scope.specs.Shape.{listed, m, startsBefore}
 use Rattle.scope.specs.Tables.{Index, index, n, bucket}
 use Rattle.scope.specs.Walk.{Question, question, distanceOf, opened, tested, openedCount, testedCount}
 use Rattle.scope.specs.Refusals.{met, unless, markWords}
@@ -36,10 +35,6 @@ pub record Asked (ask : Question) : Type 0 where
 
 abbrev pub asks : Shape → List ℕ → List ℕ → List ℕ → List ℕ → List ℕ → Question
 asks shape stars codes starts ids query = question (index shape stars codes starts ids) query
-
--- entry i's distance from the query
-abbrev pub distanceIn : Shape → List ℕ → List ℕ → ℕ → ℕ
-distanceIn shape codes query i = distance (q shape) (codeOf (shape .w) codes i) query
 
 -- ---- testing
 

@@ -14,7 +14,8 @@ ghost use Rattle.scope.specs.Shape.{q, listed, m, firstBit, len, size, startsBe
 ghost use Rattle.scope.specs.Tables as tables;
 ghost use Rattle.scope.specs.Tables.{index};
 ghost use Rattle.scope.specs.Refusals.{markWords};
-ghost use Rattle.walk.specs.Steps.{Lent, Asked, asks, distanceIn, Counted, Tests, Opening, around, Start, Going, Stepped, Fresh, stepsTo, Walked};
+ghost use Rattle.codes.specs.Distances.{distanceFrom};
+ghost use Rattle.walk.specs.Steps.{Lent, Asked, asks, Counted, Tests, Opening, around, Start, Going, Stepped, Fresh, stepsTo, Walked};
 use scope::Opened;
 use scope::Refusal;
 use scope::Shape;
@@ -118,8 +119,8 @@ impl Walk {
     ) -> Walk
         requires { ⌜ (shape .w ≤ 4) × (i * shape .w + shape .w ≤ length (now codes)) × (length (now query) ≡ shape .w) ⌝ }
         requires { ⌜ (i < 64 * length (now marks)) × (length (now marks) ≤ 1024) ⌝ }
-        requires { ⌜ Counted (distanceIn shape (now codes) (now query)) (length (now marks)) self (now marks) (now tally) ⌝ }
-        ensures { λ r. ⌜ Tests (distanceIn shape (now (codes .entry)) (now (query .entry))) (length (now (marks .entry))) (λ (j : ℕ). eqb j i) self r (now (marks .entry)) (now (marks .exit)) (now (tally .exit)) ⌝ }
+        requires { ⌜ Counted (distanceFrom (shape .w) (now codes) (now query)) (length (now marks)) self (now marks) (now tally) ⌝ }
+        ensures { λ r. ⌜ Tests (distanceFrom (shape .w) (now (codes .entry)) (now (query .entry))) (length (now (marks .entry))) (λ (j : ℕ). eqb j i) self r (now (marks .entry)) (now (marks .exit)) (now (tally .exit)) ⌝ }
     {
         if codes::marked(marks, i) {
             return self;
@@ -157,8 +158,8 @@ impl Walk {
         requires { ⌜ Asked (asks shape (now stars) (now codes) (now starts) (now ids) (now query)) ⌝ }
         requires { ⌜ (z < m shape) × (v < size shape z) ⌝ }
         requires { ⌜ tables.bad (index shape (now stars) (now codes) (now starts) (now ids)) z v ≡ false ⌝ }
-        requires { ⌜ Counted (distanceIn shape (now codes) (now query)) (markWords (length (now stars))) self (now marks) (now tally) ⌝ }
-        ensures { λ r. ⌜ Tests (distanceIn shape (now (codes .entry)) (now (query .entry))) (markWords (length (now (stars .entry)))) (λ (i : ℕ). has i (tables.bucket (index shape (now (stars .entry)) (now (codes .entry)) (now (starts .entry)) (now (ids .entry))) z v)) self r (now (marks .entry)) (now (marks .exit)) (now (tally .exit)) ⌝ }
+        requires { ⌜ Counted (distanceFrom (shape .w) (now codes) (now query)) (markWords (length (now stars))) self (now marks) (now tally) ⌝ }
+        ensures { λ r. ⌜ Tests (distanceFrom (shape .w) (now (codes .entry)) (now (query .entry))) (markWords (length (now (stars .entry)))) (λ (i : ℕ). has i (tables.bucket (index shape (now (stars .entry)) (now (codes .entry)) (now (starts .entry)) (now (ids .entry))) z v)) self r (now (marks .entry)) (now (marks .exit)) (now (tally .exit)) ⌝ }
     {
         let first = start(shape, starts, z, v);
         let end = start(shape, starts, z, v + 1);
@@ -189,7 +190,7 @@ impl Walk {
     ) -> Walk
         requires { ⌜ Asked (asks shape (now stars) (now codes) (now starts) (now ids) (now query)) ⌝ }
         requires { ⌜ (z < m shape) × (v < size shape z) × (self .met ≡ Met.Clear) × (self .opened .0 < 16842752) ⌝ }
-        requires { ⌜ Counted (distanceIn shape (now codes) (now query)) (markWords (length (now stars))) self (now marks) (now tally) ⌝ }
+        requires { ⌜ Counted (distanceFrom (shape .w) (now codes) (now query)) (markWords (length (now stars))) self (now marks) (now tally) ⌝ }
         ensures { λ r. ⌜ Opening (asks shape (now (stars .entry)) (now (codes .entry)) (now (starts .entry)) (now (ids .entry)) (now (query .entry))) ((z, v) ∷ []) self r (now (marks .entry)) (now (marks .exit)) (now (tally .exit)) ⌝ }
     {
         let opened = self.opened;
@@ -233,7 +234,7 @@ impl Walk {
     ) -> Walk
         requires { ⌜ Asked (asks shape (now stars) (now codes) (now starts) (now ids) (now query)) ⌝ }
         requires { ⌜ (z < m shape) × (sub < size shape z) × (mask < size shape z) × (self .met ≡ Met.Clear) × (self .opened .0 < 16842752) ⌝ }
-        requires { ⌜ Counted (distanceIn shape (now codes) (now query)) (markWords (length (now stars))) self (now marks) (now tally) ⌝ }
+        requires { ⌜ Counted (distanceFrom (shape .w) (now codes) (now query)) (markWords (length (now stars))) self (now marks) (now tally) ⌝ }
         ensures { λ o. ⌜ Opening (asks shape (now (stars .entry)) (now (codes .entry)) (now (starts .entry)) (now (ids .entry)) (now (query .entry))) (cond (eqb (ones mask) r) ((z, bitXor sub mask) ∷ []) []) self o (now (marks .entry)) (now (marks .exit)) (now (tally .exit)) ⌝ }
     {
         if usize::count_ones(mask) != r {
@@ -269,7 +270,7 @@ impl Walk {
     ) -> Walk
         requires { ⌜ Asked (asks shape (now stars) (now codes) (now starts) (now ids) (now query)) ⌝ }
         requires { ⌜ (z < m shape) × (self .met ≡ Met.Clear) × (self .opened .0 ≤ 16777216) ⌝ }
-        requires { ⌜ Counted (distanceIn shape (now codes) (now query)) (markWords (length (now stars))) self (now marks) (now tally) ⌝ }
+        requires { ⌜ Counted (distanceFrom (shape .w) (now codes) (now query)) (markWords (length (now stars))) self (now marks) (now tally) ⌝ }
         ensures { λ o. ⌜ Opening (asks shape (now (stars .entry)) (now (codes .entry)) (now (starts .entry)) (now (ids .entry)) (now (query .entry))) (around z r (substring (firstBit shape z) (len shape z) (now (query .entry))) (size shape z)) self o (now (marks .entry)) (now (marks .exit)) (now (tally .exit)) ⌝ }
     {
         let sub = query_substring(shape, query, z);

@@ -5,14 +5,14 @@ use native.Mathlib.Omega.{arith}
 use lib.Dec.{ltb}
 use Rattle.scope.proofs.Codes.{distance-le}
 use Rattle.scope.specs.Codes.{distance, codeOf}
-use Rattle.walk.specs.Steps.{distanceIn}
+use Rattle.codes.specs.Distances.{distanceFrom}
 use Rattle.walk.proofs.Testing
 use borrow.Author.Needs.{needs}
 use Rattle.walk.proofs.Walk.test.Statement.{statement}
 use Rattle.walk.proofs.Walk.test.Tie as tie
 
 abbrev D : tie.Start → ℕ → ℕ
-D c = distanceIn (c .args .shape) (c .args .codes .now) (c .args .query .now)
+D c = distanceFrom (c .args .shape .w) (c .args .codes .now) (c .args .query .now)
 
 close : (c : tie.Start) → D c (c .args .i) < 257
 close c = let w = c .pre .0 .0 in omega (arith, distance-le (64 * c .args .shape .w) (codeOf (c .args .shape .w) (c .args .codes .now) (c .args .i)) (c .args .query .now))

@@ -15,8 +15,9 @@ use Rattle.scope.specs.Tables.{Index, index, n, start, idAt}
 use Rattle.scope.specs.Refusals.{markWords}
 use Rattle.scope.proofs.Shapes.{facts, few-buckets}
 use Rattle.scope.proofs.Walking.{Good, good}
+use Rattle.codes.specs.Distances.{distanceFrom}
 use Rattle.walk.specs.declared.Walk.{Walk}
-use Rattle.walk.specs.Steps.{distanceIn, Tests}
+use Rattle.walk.specs.Steps.{Tests}
 use Rattle.walk.proofs.Buckets.{in-ids}
 use Rattle.walk.proofs.Testing
 use borrow.Author.Needs.{needs}
@@ -42,7 +43,7 @@ record Through (x : Index) (z v : ℕ) (distance : ℕ → ℕ) (w r : Walk) (ma
 
 abbrev Inv-loop : tie.InvT-loop
 Inv-loop shape stars codes starts ids query z v marks₀ tally₀ first end before w₀ p₀ marks tally w p =
-    Through (index shape stars codes starts ids) z v (distanceIn shape codes query) w₀ w marks₀ marks tally p
+    Through (index shape stars codes starts ids) z v (distanceFrom (shape .w) codes query) w₀ w marks₀ marks tally p
 
 abbrev μ-loop : tie.MeasureT-loop
 μ-loop shape stars codes starts ids query z v marks₀ tally₀ first end before w₀ p₀ marks tally w p = end - p
@@ -51,7 +52,7 @@ abbrev X : tie.Start Inv-loop μ-loop → Index
 X c = index (c .args .shape) (c .args .stars .now) (c .args .codes .now) (c .args .starts .now) (c .args .ids .now)
 
 abbrev D : tie.Start Inv-loop μ-loop → ℕ → ℕ
-D c = distanceIn (c .args .shape) (c .args .codes .now) (c .args .query .now)
+D c = distanceFrom (c .args .shape .w) (c .args .codes .now) (c .args .query .now)
 
 room : (c : tie.Start Inv-loop μ-loop) → c .args .z * n (X c) + n (X c) ≤ length (c .args .ids .now)
 room c = in-ids (X c) (c .pre .0 .lent) (c .args .z) (c .pre .1 .0 .0)
