@@ -1,4 +1,4 @@
-// Leaves over 64-bit words: distance, substrings, marks. And zeros, over marks and over lists of numbers.
+// Leaves of the searches: distance, substrings and marks over 64-bit words, and zeros in a list.
 ghost use mathlib.Core.Path.{_≡_};
 ghost use mathlib.Core.List.{[]};
 ghost use Prim.Native.Nat.{_+_, _*_, _≤_, _<_};
