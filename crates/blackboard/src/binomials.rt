@@ -150,7 +150,7 @@ const BINOMIALS: [[u32; 17]; 17] = [
     ],
 ];
 
-pub fn binomial(s: u32, i: u32) -> u32
+fn binomial(s: u32, i: u32) -> u32
     requires { ⌜ (s < 17) × (i < 17) ⌝ }
     ensures { λ r. ⌜ r ≡ spec.binomial s i ⌝ }
 {
@@ -158,7 +158,7 @@ pub fn binomial(s: u32, i: u32) -> u32
 }
 
 // The sum of the first k binomials of s.
-pub fn first_binomials(s: u32, k: u32) -> u32
+pub(crate) fn first_binomials(s: u32, k: u32) -> u32
     requires { ⌜ (s < 17) × (k ≤ 17) ⌝ }
     ensures { λ r. ⌜ r ≡ spec.L s k ⌝ }
 {
