@@ -162,6 +162,28 @@ def round_trips():
             yield f"{name}: what is bad", on_purpose == (b"bad" in transcript(data))
 
 
+def random_texts():
+    """A text that is taken, and has no raw or bytes line, has no bad record: sessions with lines exchanged, left out, doubled and damaged."""
+    rng, taken, refused = random.Random(7), 0, 0
+    words = ["0", "1", "2", "8", "9", "512", "65535", "65536", "0x3", "0x" + 17 * "1", "inf", "1,2", "degrees", *RECORDS.KINDS]
+    for number in range(300):
+        lines = [line for line in RECORDS.lines_of(random_input(rng)) if not line.startswith(("raw", "bytes"))]
+        for _ in range(rng.randrange(3) if lines else 0):
+            at, to = rng.randrange(len(lines)), rng.randrange(len(lines))
+            damaged = lines[at].split()
+            damaged[rng.randrange(len(damaged))] = rng.choice(words)
+            lines[at : at + 1] = rng.choice([[], [lines[at]] * 2, [lines[to]], [" ".join(damaged)]])
+            if not lines:
+                break
+        try:
+            data = b"".join(made for _, made in RECORDS.parts_of("\n".join(lines)))
+            taken += 1
+            yield f"random text {number}: {lines}", b"bad" not in transcript(data)
+        except RECORDS.WrongText:
+            refused += 1
+    yield f"{taken} texts taken, {refused} refused", taken > 50 and refused > 50
+
+
 def places():
     with tempfile.TemporaryDirectory() as folder:
         file = pathlib.Path(folder) / "places of it"
@@ -198,7 +220,7 @@ def command_lines():
 
 
 def main():
-    results = [case for cases in (texts, wrong_texts, round_trips, places, command_lines) for case in cases()]
+    results = [case for cases in (texts, wrong_texts, round_trips, random_texts, places, command_lines) for case in cases()]
     failed = [name for name, passed in results if not passed]
     for name in failed:
         print(f"FAILED {name}", file=sys.stderr)
