@@ -11,7 +11,7 @@ use native.Mathlib.Omega.{arith}
 use lib.Dec.{ltb}
 use lib.ListN.{length, getD, take}
 use lib.Seq.{take-append-le}
-use borrow.Author.Tests.{lt-ltb, ne-eqb}
+use borrow.Author.Tests.{lt-ltb}
 use Rattle.theory.specs.Lists.{sum, ranked}
 use Rattle.theory.specs.Binomials.{binomial, L}
 use Rattle.theory.proofs.Counting.{count-less}
@@ -30,6 +30,7 @@ use Rattle.scope.specs.Search.{K, nearestSteps, withinSteps}
 use Rattle.scope.specs.Calls.{Asked, nearestEnd, verdictEnd}
 use Rattle.scope.proofs.Shapes.{facts}
 use Rattle.scope.proofs.Codes.{distance-self}
+use Rattle.scope.proofs.Steps.{within-some}
 use Rattle.demands.specs.Neighbours.{neighbours, everyEntry, kthDistance}
 use Rattle.demands.specs.Trust.{NearestCall, VerdictCall}
 use Rattle.demands.proofs.Sound.{length-every, kth-smallest}
@@ -94,8 +95,7 @@ none-is-a-promise ask marks t g such rep given none =
 
 module _ (c : Asked) (k : ℕ) (such : NearestCall c k) (some : 0 < K (c .question .index) k) where
   pub nearest-opens-within : let ask = c .question in nearestSteps ask k ≡ withinSteps (ask .index) (kthDistance ask (K (ask .index) k))
-  unfolding withinSteps
-  nearest-opens-within = steps-are c k such some ∙ rw (ne-eqb (n (c .question .index)) 0 (omega arith))
+  nearest-opens-within = steps-are c k such some ∙ sym (within-some (c .question .index) _ (omega arith))
 
   pub nearest-of-within : let ask = c .question in
       let K = K (ask .index) k in

@@ -8,15 +8,15 @@ use lib.Arith.{digits-div, digits-mod}
 use lib.Count.{ones}
 use lib.Dec.{ltb, leb}
 use lib.ListN.{length}
-use borrow.Author.Tests.{lt-ltb, le-ltb, ne-eqb}
-use Rattle.theory.specs.Lists.{any, count}
+use borrow.Author.Tests.{lt-ltb, le-ltb}
+use Rattle.theory.specs.Lists.{any, count, is}
 use Rattle.theory.specs.Binomials.{L}
 use Rattle.theory.proofs.Radii.{by-radius}
 use Rattle.theory.proofs.Tests.{lt-or-le, oneIf, leb-is-ltb}
 use Rattle.theory.proofs.Counting.{count-cong}
 use Rattle.theory.proofs.Placing.{all, lower-all}
 use Rattle.theory.proofs.Times.{times, any-times}
-use Rattle.theory.proofs.Opening.{is, opened-once, opened-none}
+use Rattle.theory.proofs.Opening.{opened-once, opened-none}
 use Rattle.scope.specs.Shape.{listed, m, firstBit, len, size}
 use Rattle.scope.specs.Tables.{n}
 use Rattle.scope.specs.declared.Report.{Report}
@@ -26,6 +26,7 @@ use Rattle.scope.specs.Search.{K, nearestSteps, withinSteps}
 use Rattle.scope.specs.Calls.{Asked, room, report, nearestEnd, withinEnd, searchEnd}
 use Rattle.scope.proofs.Shapes.{facts}
 use Rattle.scope.proofs.Opening.{asks, opened-by, open-after}
+use Rattle.scope.proofs.Steps.{within-some}
 use Rattle.scope.proofs.Codes.{substring-lt}
 use Rattle.demands.specs.Neighbours.{neighbours, kthDistance}
 use Rattle.demands.specs.Radii.{apart, inRadius}
@@ -116,15 +117,14 @@ module _ (c : Asked) (k : ℕ) (such : NearestCall c k) (some : 0 < K (c .questi
       let D : kthDistance ask (K (ask .index) k) ≡ r * m sh + a = omega arith in
       (λ z v. rw (steps-are, e) (opened-radii ask (known .shape) r a z v ha), (_, count-is, rw (D, digits-div r ha, digits-mod r ha)))
 
--- the search within r opens what the steps 0 to r open, and reports the blackboard's count after step r; of an empty catalogue it opens nothing
+-- the search within r opens what the steps 0 to r open, and reports the blackboard's count after step r
 pub within-count : (c : Asked) (r : ℕ) → WithinCall c r → let ask = c .question in
     0 < n (ask .index) → length (neighbours ask r) ≤ room c
     → (rep : Report) × (withinEnd c r .answer ≡ Listed rep) × (rep .opened .0 ≡ openAfter (ask .index .shape) r)
-unfolding withinEnd searchEnd report withinSteps
+unfolding withinEnd searchEnd report
 within-count c r such some h =
-    let ask = c .question in
-    let steps : withinSteps (ask .index) r ≡ r + 1 = rw (ne-eqb (n (ask .index)) 0 (omega arith)) in (
+    let ask = c .question in (
       report ask (withinSteps (ask .index) r) (neighbours ask r),
       within-answer c r such ∙ rw (le-ltb (room c) (length (neighbours ask r)) h),
-      ap (λ (N : ℕ). length (opened ask N)) steps ∙ open-after ask r (within-ready c r such .shape),
+      ap (λ (N : ℕ). length (opened ask N)) (within-some (ask .index) r some) ∙ open-after ask r (within-ready c r such .shape),
     )

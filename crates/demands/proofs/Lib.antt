@@ -1,4 +1,4 @@
--- The lab's demands, a file for each: what is listed (Within, Nearest), what is opened and counted (Count, Tested), what the answers depend on (Locality),
+-- The lab's demands, a file for each: what is listed (Within, Nearest), what is opened and counted (Count, Tested, Edges), what the answers depend on (Locality),
 -- what a verdict says (Verdict); Proposition 2 of 003, and what follows (Corollaries). The other files are the way there.
 pub mod Sound
 pub mod Trusting
@@ -11,6 +11,7 @@ pub mod Within
 pub mod Nearest
 pub mod Count
 pub mod Tested
+pub mod Edges
 pub mod Locality
 pub mod Verdict
 pub mod Corollaries

@@ -6,8 +6,8 @@ use mathlib.Core.Bool.{true, false}
 use mathlib.Core.List.{List, [], _∷_, _++_, append-nil}
 use Prim.Native.Nat.{ℕ, _+_, _*_, _<_, min}
 use lib.ListN.{length, take, getD}
-use Rattle.theory.specs.Lists.{any, ranked}
-use Rattle.theory.proofs.Opening.{is, any-bucket}
+use Rattle.theory.specs.Lists.{any, ranked, is}
+use Rattle.theory.proofs.Opening.{any-bucket}
 use Rattle.scope.specs.declared.Report.{Report}
 use Rattle.scope.specs.declared.Judged.{Judged}
 use Rattle.scope.specs.declared.Judged.the-variants as judged

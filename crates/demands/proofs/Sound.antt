@@ -12,13 +12,13 @@ use lib.Count.{ones}
 use lib.Dec.{eqb, ltb, leb}
 use lib.ListN.{length, getD, take}
 use borrow.Author.Tests.{ne-eqb, lt-ltb, le-ltb, le-leb, lt-leb}
-use Rattle.theory.specs.Lists.{upto, any, has}
+use Rattle.theory.specs.Lists.{upto, any, has, is}
 use Rattle.theory.proofs.Tests.{lt-or-le}
 use Rattle.theory.proofs.Counting.{count-cong, has-upto}
 use Rattle.theory.proofs.Times.{any-times}
 use Rattle.theory.proofs.Order.{All, all-imp, cat-all, upto-all, ranked-cong, first-ranked}
 use Rattle.theory.proofs.Placing.{all, lower, lower-mono, lower-full, length-ranked, Here, here, placeOf, place-below}
-use Rattle.theory.proofs.Opening.{is, is-own, found}
+use Rattle.theory.proofs.Opening.{is-own, found}
 use Rattle.scope.specs.Codes.{codeOf}
 use Rattle.scope.specs.Shape.{q, m, listed, firstBit, len, size}
 use Rattle.scope.specs.Tables.{n, substringOf, bad, sound}

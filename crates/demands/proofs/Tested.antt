@@ -6,12 +6,12 @@ use mathlib.Core.List.{[], _∷_}
 use Prim.Native.Nat.{ℕ, _+_, _*_, _<_}
 use native.Mathlib.Omega.{arith}
 use lib.Dec.{eqb, ltb}
-use borrow.Author.Tests.{eqb-true, ne-eqb, ltb-true}
-use Rattle.theory.specs.Lists.{count, any, tab}
+use borrow.Author.Tests.{eqb-true, ltb-true}
+use Rattle.theory.specs.Lists.{count, any, tab, is}
 use Rattle.theory.proofs.Tests.{same-test, and-left}
 use Rattle.theory.proofs.Lists.{any-one, any-cat-yes, any-cat-at}
 use Rattle.theory.proofs.Counting.{count-cong}
-use Rattle.theory.proofs.Opening.{is, any-bucket, is-own}
+use Rattle.theory.proofs.Opening.{any-bucket, is-own}
 use Rattle.scope.specs.declared.Report.{Report}
 use Rattle.scope.specs.declared.Found.the-variants.{Listed, Refused}
 use Rattle.scope.specs.Shape.{m, size, listed}
@@ -21,6 +21,7 @@ use Rattle.scope.specs.Search.{K, nearestSteps, nearest, withinSteps, within}
 use Rattle.scope.specs.Refusals.{Rows, unless}
 use Rattle.scope.specs.Calls.{Asked, report, nearestAnswer, nearestEnd, withinAnswer, withinEnd, searchEnd}
 use Rattle.scope.proofs.Rows.{unless-none, all-clear}
+use Rattle.scope.proofs.Steps.{within-some}
 use Rattle.demands.specs.Neighbours.{kthDistance}
 use Rattle.demands.specs.Answers.{Reported}
 use Rattle.demands.specs.Radii.{inRadius, candidate}
@@ -98,12 +99,12 @@ pub within-tests : (c : Asked) (r : ℕ) → WithinCall c r → let ask = c .que
     let x = ask .index in
     (r′ a : ℕ) → a < m (x .shape) → r ≡ m (x .shape) * r′ + a
     → (rep : Report) → withinEnd c r .answer ≡ Listed rep → rep .tested .0 ≡ count (candidate ask r′ a) (n x)
-unfolding tested withinSteps
+unfolding tested
 within-tests c r such r′ a ha e rep listed =
     let ask = c .question in
     let x = ask .index in
     let known = within-ready c r such in
     within-reports c r rep listed .entries
     ∙ count-cong (tested ask (withinSteps x r)) (candidate ask r′ a) (n x) (λ i l.
-    let steps : withinSteps x r ≡ m (x .shape) * r′ + a + 1 = rw (ne-eqb (n x) 0 (omega arith)) (omega arith) in
+    let steps : withinSteps x r ≡ m (x .shape) * r′ + a + 1 = within-some x r (omega arith) ∙ omega arith in
     ap (λ (N : ℕ). tested ask N i) steps ∙ tested-candidate ask (known .shape) (known .good) r′ a i ha l)

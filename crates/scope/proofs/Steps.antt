@@ -1,4 +1,4 @@
--- Laws of the walk's steps: what the first steps open and test, and where the search for the k nearest stops. Assumes nothing.
+-- Laws of the walk's steps: what the first steps open and test, and where the searches stop. Assumes nothing.
 use mathlib.Core.Path.{_≡_, ap, _∙_}
 use mathlib.Core.Logic.{⊎-elim}
 use mathlib.Core.Bool.{Bool, true, false}
@@ -12,8 +12,9 @@ use borrow.Author.Tests.{ne-eqb, eq-eqb}
 use Rattle.theory.specs.Lists.{first}
 use Rattle.theory.proofs.Lists.{cat-front, first-is, first-none}
 use Rattle.scope.specs.Shape.{q}
+use Rattle.scope.specs.Tables.{Index, n}
 use Rattle.scope.specs.Walk.{Question, opens, opened, near}
-use Rattle.scope.specs.Search.{K, nearestSteps}
+use Rattle.scope.specs.Search.{K, nearestSteps, withinSteps}
 
 -- ---- what the steps open
 
@@ -21,6 +22,17 @@ use Rattle.scope.specs.Search.{K, nearestSteps}
 pub opened-front : (ask : Question) (M N : ℕ) → M ≤ N → (t : List (ℕ × ℕ)) × (opened ask N ≡ opened ask M ++ t)
 unfolding opened
 opened-front ask M N h = cat-front (opens ask) M N h
+
+-- ---- where the search within r stops
+
+-- with n = 0 before the first step, otherwise after step r
+pub within-none : (x : Index) (r : ℕ) → n x ≡ 0 → withinSteps x r ≡ 0
+unfolding withinSteps
+within-none x r e = rw (eq-eqb (n x) 0 e)
+
+pub within-some : (x : Index) (r : ℕ) → 0 < n x → withinSteps x r ≡ r + 1
+unfolding withinSteps
+within-some x r h = rw (ne-eqb (n x) 0 (omega arith))
 
 -- ---- where the search for the k nearest stops
 

@@ -12,7 +12,7 @@ use lib.Count.{ones}
 use lib.Dec.{eqb, ltb}
 use lib.ListN.{length, length-map}
 use borrow.Author.Tests.{eq-eqb, ne-eqb, lt-ltb, le-ltb, eqb-true}
-use Rattle.theory.specs.Lists.{sum, cat, upto, count, any}
+use Rattle.theory.specs.Lists.{sum, cat, upto, count, any, is}
 use Rattle.theory.specs.Binomials.{L}
 use Rattle.theory.proofs.Tests.{either, lt-or-le, both-ways, or-right, and-left, and-right, oneIf}
 use Rattle.theory.proofs.Sums.{sum-cong, sum-split, sum-zero, sum-at, sum-plus, sum-const}
@@ -30,10 +30,6 @@ stepBy m len wt q R = map (λ e. (R % m, bitXor (q (R % m)) e)) (upto (λ e. eqb
 -- the first n steps: steps 0 to R are the first R + 1
 abbrev pub openedBy : ℕ → (ℕ → ℕ) → (ℕ → ℕ → ℕ) → (ℕ → ℕ) → ℕ → List (ℕ × ℕ)
 openedBy m len wt q n = cat (stepBy m len wt q) n
-
--- the bucket b is bucket v of table z
-abbrev pub is : ℕ → ℕ → ℕ × ℕ → Bool
-is z v b = eqb z (b .0) && eqb v (b .1)
 
 -- a bucket of a list that passes the test
 pub any-bucket : (t : ℕ × ℕ → Bool) (l : List (ℕ × ℕ)) → any t l ≡ true → (b : ℕ × ℕ) × (t b ≡ true) × (any (is (b .0) (b .1)) l ≡ true)

@@ -1,4 +1,4 @@
--- 01's session with the head, A's entries, nearest 2, verdict t = 4 g = 3 and within 1: its seven lines, by computing. Assumes nothing.
+-- By computing: 01's session with the head, A's entries, nearest 2, verdict t = 4 g = 3 and within 1 prints its seven lines; a lone head and no input at all. Assumes nothing.
 use mathlib.Core.Path.{_≡_, refl}
 use mathlib.Core.List.{List, [], _∷_, _++_}
 use Prim.Native.Nat.{ℕ}
@@ -89,3 +89,18 @@ nine = 57 ∷ 32 ∷ 119 ∷ 105 ∷ 116 ∷ 104 ∷ 105 ∷ 110 ∷ 32 ∷ 49 �
 whole : transcript input ≡ stars5 ++ seven ++ first ++ second ++ eight ++ nine ++ first
 unfolding transcript printed built reply recordOf meaningOf restOf wanted numberAt decimal decimalIn hex answerLines buildEnd buildAnswer builtStarts builtIds nearestEnd withinEnd searchEnd verdictEnd lent nearestAnswer withinAnswer verdictAnswer report unless nearestSteps nearest withinSteps within ranked verdictOf firstFrom near tested opened opens bad badId start idAt substringOf listed startsBefore m firstBit len substring distance codeOf bit sum cat any ones
 whole = refl
+
+-- ---- the end of the input
+
+-- stars 0
+abbrev stars0 : List ℕ
+stars0 = 115 ∷ 116 ∷ 97 ∷ 114 ∷ 115 ∷ 32 ∷ 48 ∷ 10 ∷ []
+
+-- after the head alone, and before it
+lone-head : transcript head ≡ stars0
+unfolding transcript printed recordOf meaningOf restOf wanted numberAt decimal decimalIn
+lone-head = refl
+
+empty-input : transcript [] ≡ []
+unfolding transcript printed recordOf wanted numberAt
+empty-input = refl
