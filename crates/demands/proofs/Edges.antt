@@ -1,6 +1,6 @@
 -- At the edges, over any tables: where there is nothing to look for nothing is opened; and how many mark words 64 entries need, and 65. Assumes nothing.
 use mathlib.Core.Path.{_≡_, refl, _∙_}
-use mathlib.Core.List.{List, [], _∷_, _++_}
+use mathlib.Core.List.{[], _∷_, _++_}
 use Prim.Native.Nat.{ℕ}
 use native.Mathlib.Omega.{arith}
 use lib.ListN.{length}

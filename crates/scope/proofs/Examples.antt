@@ -1,4 +1,4 @@
--- What the definitions give on catalogue A with query 3, and for each shape: all by computing. (P1 to P10 as one list: crate `examples`.)
+-- What holds the definitions besides 01's examples, by computing: on catalogue A with query 3, and for each shape. (01's own: P1 to P10 in crate `examples`, the rest in the programs.)
 use mathlib.Core.Path.{_≡_, refl}
 use mathlib.Core.Bool.{Bool, true, false}
 use mathlib.Core.List.{List, [], _∷_, map}
@@ -11,12 +11,11 @@ use Rattle.scope.specs.declared.Unit.the-variants.{Degrees, Radians}
 use Rattle.scope.specs.Codes.{bit, distance, substring, codeOf}
 use Rattle.scope.specs.Shape.{q, listed, m, firstBit, len, size, startsBefore}
 use Rattle.scope.specs.Tables.{substringOf, builtStarts, builtIds, sound, start, idAt, bucket, badId, bad}
-use Rattle.theory.specs.Binomials.{binomial}
-use Rattle.scope.specs.Walk.{openAfter, distanceOf, opens, opened, tested, near}
+use Rattle.scope.specs.Walk.{opens, opened, tested, near}
 use Rattle.scope.specs.Search.{nearestSteps, nearest, withinSteps, within}
 use Rattle.scope.specs.Sky.{angleOf, given, finite, perRadian, degrees, edge, inField, column, angleAt, cellAt, codeFrom}
-use Rattle.scope.specs.Refusals.{refusal, above, unless, lent, ofBlackboard, ofSky}
-use Rattle.scope.specs.Calls.{report, nearestAnswer, nearestEnd, withinAnswer, withinEnd, searchEnd, blackboardAnswer, skyAnswer}
+use Rattle.scope.specs.Refusals.{unless, lent, ofSky}
+use Rattle.scope.specs.Calls.{report, nearestAnswer, nearestEnd, withinAnswer, withinEnd, searchEnd, skyAnswer}
 use Rattle.scope.proofs.CatalogueA.{a, spoiled, ask, asked, shown}
 
 abbrev shape : ℕ → ℕ → Shape
@@ -41,10 +40,6 @@ listed-shapes = refl
 
 -- ---- codes and tables
 
-distances : map (distanceOf (ask a)) (0 ∷ 1 ∷ 2 ∷ 3 ∷ 4 ∷ []) ≡ 2 ∷ 1 ∷ 6 ∷ 62 ∷ 8 ∷ []
-unfolding distance sum bit codeOf
-distances = refl
-
 -- a substring of two words: bits 60 to 67
 crossing : substring 60 8 (0xa000_0000_0000_0000 ∷ 0x5 ∷ []) ≡ 0x5a
 unfolding substring sum bit
@@ -59,48 +54,18 @@ buckets : bucket a 0 1 ∷ bucket a 0 2 ∷ bucket a 1 0 ∷ bucket a 7 255 ∷ 
 unfolding start idAt startsBefore cat
 buckets = refl
 
--- ---- the walk: what a step opens, what P2's two steps open, and the blackboard
+-- ---- the walk: what a step opens
 
 masks : opens (ask a) 8 ≡ (0, 2) ∷ (0, 1) ∷ (0, 7) ∷ (0, 11) ∷ (0, 19) ∷ (0, 35) ∷ (0, 67) ∷ (0, 131) ∷ []
 unfolding opens cat m firstBit len substring sum bit ones
 masks = refl
 
-p2-opened : opened (ask a) 2 ≡ (0, 3) ∷ (1, 0) ∷ []
-unfolding opened opens cat m firstBit len substring sum bit ones
-p2-opened = refl
-
-board :
-    map (openAfter (shape 1 8)) (0 ∷ 1 ∷ 2 ∷ 8 ∷ 62 ∷ 64 ∷ []) ≡ 1 ∷ 2 ∷ 3 ∷ 16 ∷ 2032 ∷ 2041 ∷ []
-unfolding openAfter m sum binomial
-board = refl
-
-board-refused : map (λ R. ofBlackboard (blackboardAnswer (shape 1 8) R)) (64 ∷ 65 ∷ []) ≡ (0, 2041 ∷ []) ∷ (4, []) ∷ []
-unfolding blackboardAnswer unless listed any openAfter m sum binomial
-board-refused = refl
-
 -- ---- the searches: number and values, then the lists at the end
 
--- P1 to P4: four answer places at least, and one more that stays
-nearests :
-    shown (nearestEnd (asked a 1 1) 0) ∷ shown (nearestEnd (asked a 2 3) 1) ∷ shown (nearestEnd (asked a 3 3) 2) ∷ shown (nearestEnd (asked a 5 5) 4) ∷ []
-    ≡ (0, 0 ∷ 0 ∷ 0 ∷ [], 0 ∷ 7 ∷ [], 9 ∷ [], 9 ∷ [])
-    ∷ (0, 1 ∷ 2 ∷ 3 ∷ [], 0 ∷ 7 ∷ [], 1 ∷ 9 ∷ [], 1 ∷ 9 ∷ 9 ∷ [])
-    ∷ (0, 2 ∷ 3 ∷ 3 ∷ [], 0 ∷ 7 ∷ [], 1 ∷ 0 ∷ 9 ∷ [], 1 ∷ 2 ∷ 9 ∷ [])
-    ∷ (0, 4 ∷ 16 ∷ 4 ∷ [], 0 ∷ 7 ∷ [], 1 ∷ 0 ∷ 2 ∷ 4 ∷ 9 ∷ [], 1 ∷ 2 ∷ 6 ∷ 8 ∷ 9 ∷ []) ∷ []
-unfolding nearestEnd withinEnd searchEnd lent nearestAnswer withinAnswer report unless nearestSteps nearest withinSteps within ranked firstFrom near tested opened opens bad badId start idAt substringOf listed startsBefore m firstBit len substring distance codeOf bit sum cat any ones
-nearests = refl
-
--- P6 and P7; r = 65 refused 4; within 1 with room 0 refused 6 with T = 1; within 2 with one place: the first answer
-withins :
-    shown (withinEnd (asked a 6 6) 0) ∷ shown (withinEnd (asked a 6 6) 1) ∷ shown (withinEnd (asked a 1 1) 65)
-    ∷ shown (withinEnd (asked a 0 1) 1) ∷ shown (withinEnd (asked a 1 2) 2) ∷ []
-    ≡ (0, 0 ∷ 1 ∷ 0 ∷ [], 0 ∷ 7 ∷ [], 0 ∷ 0 ∷ 0 ∷ 0 ∷ 0 ∷ 9 ∷ [], 0 ∷ 0 ∷ 0 ∷ 0 ∷ 0 ∷ 9 ∷ [])
-    ∷ (0, 1 ∷ 2 ∷ 3 ∷ [], 0 ∷ 7 ∷ [], 1 ∷ 0 ∷ 0 ∷ 0 ∷ 0 ∷ 9 ∷ [], 1 ∷ 0 ∷ 0 ∷ 0 ∷ 0 ∷ 9 ∷ [])
-    ∷ (4, [], 7 ∷ 7 ∷ [], 9 ∷ [], 9 ∷ [])
-    ∷ (6, 1 ∷ [], 0 ∷ 7 ∷ [], [], 9 ∷ [])
-    ∷ (6, 2 ∷ [], 0 ∷ 7 ∷ [], 1 ∷ [], 1 ∷ 9 ∷ []) ∷ []
-unfolding nearestEnd withinEnd searchEnd lent nearestAnswer withinAnswer report unless nearestSteps nearest withinSteps within ranked firstFrom near tested opened opens bad badId start idAt substringOf listed startsBefore m firstBit len substring distance codeOf bit sum cat any ones
-withins = refl
+-- 6 returns T and leaves the first P answers: within 2 with one place
+six : shown (withinEnd (asked a 1 2) 2) ≡ (6, 2 ∷ [], 0 ∷ 7 ∷ [], 1 ∷ [], 1 ∷ 9 ∷ [])
+unfolding withinEnd searchEnd lent withinAnswer report unless withinSteps within ranked tested opened opens bad badId start idAt substringOf listed startsBefore m firstBit len substring distance codeOf bit sum cat any ones
+six = refl
 
 -- 7 names table 1, bucket 0, and leaves zeros; where the walk does not meet it, it does not matter; 5 comes before it
 bads :
@@ -110,11 +75,6 @@ bads :
     ∷ (5, [], 7 ∷ 7 ∷ [], 9 ∷ [], 9 ∷ 9 ∷ 9 ∷ []) ∷ []
 unfolding nearestEnd withinEnd searchEnd lent nearestAnswer withinAnswer report unless nearestSteps nearest withinSteps within ranked firstFrom near tested opened opens bad badId start idAt substringOf listed startsBefore m firstBit len substring distance codeOf bit sum cat any ones
 bads = refl
-
--- r = 64 allowed, r = 65 refused 4
-radii : map (λ r. unless (above (shape 1 8) (r ∷ [])) refusal (0, [])) (64 ∷ 65 ∷ []) ≡ (0, []) ∷ (4, []) ∷ []
-unfolding unless any
-radii = refl
 
 -- ---- the sky: 8; 9 with its place; across before up, so 10 before the 9 of up; 9 before 10 of one angle; an overflow is 10; cells; no stars
 
