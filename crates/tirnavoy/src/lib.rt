@@ -4,12 +4,14 @@ ghost use mathlib.Core.List.{[], _∷_};
 ghost use Rattle.scope.specs.Calls.{asked, buildEnd, checkAnswer, nearestEnd, withinEnd, verdictEnd, blackboardAnswer, skyAnswer};
 ghost use Rattle.scope.specs.Walk.{question};
 ghost use Rattle.scope.specs.Tables.{index};
-ghost use Rattle.tirnavoy.specs.Outs.{shape, built, checkOuts, searchOuts, searchRefused, searched, spoken, verdictOuts, told, blackboardOuts, skyOuts};
+ghost use Rattle.scope.specs.Refusals.{refusal, ofChecked, ofFound, ofVerdict, ofJudged, ofSky, ofBlackboard};
+ghost use Rattle.tirnavoy.specs.Outs.{shape, oneOut, skyOuts, searchOuts, spoken, verdictOuts, built, searched, told};
 use scope::Blackboard;
 use scope::Built;
 use scope::Checked;
 use scope::Found;
 use scope::Judged;
+use scope::Refusal;
 use scope::Shape;
 use scope::Sky;
 use scope::Unit;
@@ -45,7 +47,7 @@ pub extern "C" fn tirnavoy_check(
     ids: &[u32],
     sound: &mut u32,
 ) -> u32
-    ensures { λ r. ⌜ r ∷ now (sound .exit) ∷ [] ≡ checkOuts (checkAnswer (index (shape w s) (now (stars .entry)) (now (codes .entry)) (now (starts .entry)) (now (ids .entry)))) ⌝ }
+    ensures { λ r. ⌜ r ∷ now (sound .exit) ∷ [] ≡ oneOut (ofChecked (checkAnswer (index (shape w s) (now (stars .entry)) (now (codes .entry)) (now (starts .entry)) (now (ids .entry))))) ⌝ }
 {
     let shape = Shape { w: w, s: s };
     *sound = 0;
@@ -61,20 +63,20 @@ pub extern "C" fn tirnavoy_check(
 
 // A search's refusal through its outs: after 6 T stands in `answers`, after 7 the bad bucket's table and number.
 fn refused(
-    number: u32,
-    first: u32,
-    second: u32,
+    why: Refusal,
     answers: &mut u32,
     opened: &mut u32,
     tested: &mut u32,
     table: &mut u32,
     bucket: &mut u32,
 ) -> u32
-    ensures { λ r. ⌜ r ∷ now (answers .exit) ∷ now (opened .exit) ∷ now (tested .exit) ∷ now (table .exit) ∷ now (bucket .exit) ∷ [] ≡ searchRefused number first second ⌝ }
+    ensures { λ r. ⌜ r ∷ now (answers .exit) ∷ now (opened .exit) ∷ now (tested .exit) ∷ now (table .exit) ∷ now (bucket .exit) ∷ [] ≡ searchOuts (refusal why) ⌝ }
 {
+    let number = why.number();
+    let first = why.first();
     *opened = 0;
     *tested = 0;
-    *bucket = second;
+    *bucket = why.second();
     if number == 6 {
         *answers = first;
         *table = 0;
@@ -94,7 +96,7 @@ fn report(
     table: &mut u32,
     bucket: &mut u32,
 ) -> u32
-    ensures { λ r. ⌜ r ∷ now (answers .exit) ∷ now (opened .exit) ∷ now (tested .exit) ∷ now (table .exit) ∷ now (bucket .exit) ∷ [] ≡ searchOuts found ⌝ }
+    ensures { λ r. ⌜ r ∷ now (answers .exit) ∷ now (opened .exit) ∷ now (tested .exit) ∷ now (table .exit) ∷ now (bucket .exit) ∷ [] ≡ searchOuts (ofFound found) ⌝ }
 {
     match found {
         Found::Listed(report) => {
@@ -107,16 +109,7 @@ fn report(
             *bucket = 0;
             0
         }
-        Found::Refused(refusal) => refused(
-            refusal.number(),
-            refusal.first(),
-            refusal.second(),
-            answers,
-            opened,
-            tested,
-            table,
-            bucket,
-        ),
+        Found::Refused(why) => refused(why, answers, opened, tested, table, bucket),
     }
 }
 
@@ -205,7 +198,7 @@ fn speak(
     distance: &mut u32,
     farther: &mut u32,
 )
-    ensures { λ _. ⌜ now (kind .exit) ∷ now (star .exit) ∷ now (other .exit) ∷ now (distance .exit) ∷ now (farther .exit) ∷ [] ≡ spoken verdict ⌝ }
+    ensures { λ _. ⌜ now (kind .exit) ∷ now (star .exit) ∷ now (other .exit) ∷ now (distance .exit) ∷ now (farther .exit) ∷ [] ≡ spoken (ofVerdict verdict) ⌝ }
 {
     *other = 0;
     *farther = 0;
@@ -251,7 +244,7 @@ fn judged(
     table: &mut u32,
     bucket: &mut u32,
 ) -> u32
-    ensures { λ r. ⌜ r ∷ now (kind .exit) ∷ now (star .exit) ∷ now (other .exit) ∷ now (distance .exit) ∷ now (farther .exit) ∷ now (opened .exit) ∷ now (tested .exit) ∷ now (table .exit) ∷ now (bucket .exit) ∷ [] ≡ verdictOuts given ⌝ }
+    ensures { λ r. ⌜ r ∷ now (kind .exit) ∷ now (star .exit) ∷ now (other .exit) ∷ now (distance .exit) ∷ now (farther .exit) ∷ now (opened .exit) ∷ now (tested .exit) ∷ now (table .exit) ∷ now (bucket .exit) ∷ [] ≡ verdictOuts (ofJudged given) ⌝ }
 {
     match given {
         Judged::Given(report) => {
@@ -320,7 +313,7 @@ pub extern "C" fn tirnavoy_verdict(
 // How many buckets are open after the step.
 #[no_mangle]
 pub extern "C" fn tirnavoy_blackboard(w: u32, s: u32, step: u32, buckets: &mut u32) -> u32
-    ensures { λ r. ⌜ r ∷ now (buckets .exit) ∷ [] ≡ blackboardOuts (blackboardAnswer (shape w s) step) ⌝ }
+    ensures { λ r. ⌜ r ∷ now (buckets .exit) ∷ [] ≡ oneOut (ofBlackboard (blackboardAnswer (shape w s) step)) ⌝ }
 {
     let shape = Shape { w: w, s: s };
     match blackboard::count(shape, step) {
@@ -336,7 +329,7 @@ pub extern "C" fn tirnavoy_blackboard(w: u32, s: u32, step: u32, buckets: &mut u
 }
 
 fn sky_code(unit: Unit, across: &[f64], up: &[f64], code: &mut u64, place: &mut u32) -> u32
-    ensures { λ r. ⌜ r ∷ now (code .exit) ∷ now (place .exit) ∷ [] ≡ skyOuts (skyAnswer unit (now (across .entry)) (now (up .entry))) ⌝ }
+    ensures { λ r. ⌜ r ∷ now (code .exit) ∷ now (place .exit) ∷ [] ≡ skyOuts (ofSky (skyAnswer unit (now (across .entry)) (now (up .entry)))) ⌝ }
 {
     match sky::code(unit, across, up) {
         Sky::Code(made) => {
@@ -360,7 +353,7 @@ pub extern "C" fn tirnavoy_sky_degrees(
     code: &mut u64,
     place: &mut u32,
 ) -> u32
-    ensures { λ r. ⌜ r ∷ now (code .exit) ∷ now (place .exit) ∷ [] ≡ skyOuts (skyAnswer Unit.Degrees (now (across .entry)) (now (up .entry))) ⌝ }
+    ensures { λ r. ⌜ r ∷ now (code .exit) ∷ now (place .exit) ∷ [] ≡ skyOuts (ofSky (skyAnswer Unit.Degrees (now (across .entry)) (now (up .entry)))) ⌝ }
 {
     sky_code(Unit::Degrees, across, up, code, place)
 }
@@ -372,7 +365,7 @@ pub extern "C" fn tirnavoy_sky_radians(
     code: &mut u64,
     place: &mut u32,
 ) -> u32
-    ensures { λ r. ⌜ r ∷ now (code .exit) ∷ now (place .exit) ∷ [] ≡ skyOuts (skyAnswer Unit.Radians (now (across .entry)) (now (up .entry))) ⌝ }
+    ensures { λ r. ⌜ r ∷ now (code .exit) ∷ now (place .exit) ∷ [] ≡ skyOuts (ofSky (skyAnswer Unit.Radians (now (across .entry)) (now (up .entry)))) ⌝ }
 {
     sky_code(Unit::Radians, across, up, code, place)
 }
