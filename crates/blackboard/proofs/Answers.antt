@@ -1,4 +1,4 @@
--- What the blackboard answers, case by case; that its count is the number of buckets that the walk opens; and that its answer is one. Assumes nothing.
+-- What the blackboard answers, case by case; and that its count is the number of buckets that the walk opens. Assumes nothing.
 use mathlib.Core.Path.{_≡_, sym, ap, _∙_}
 use mathlib.Core.Logic.{⊎-elim}
 use mathlib.Core.Bool.{true, false}
@@ -58,7 +58,3 @@ counted ask R r o e b =
     ⊎-elim (λ (l : q sh < R). absurd (no-refusal r o Query b (e ∙ refused-4 sh R h l)))
     (λ (l : R ≤ q sh). same-number r o (openedCount ask (R + 1)) b (e ∙ counts ask R h l)) (lt-or-le (q sh) R))
     (λ (h : listed sh ≡ false). absurd (no-refusal r o Unlisted b (e ∙ refused-1 sh R h))) (either (listed sh))
-
--- any two answers that the contract of `count` allows are equal
-pub one-answer : (sh : Shape) (R : ℕ) {r r′ : Blackboard} → r ≡ blackboardAnswer sh R → r′ ≡ blackboardAnswer sh R → r ≡ r′
-one-answer sh R e e′ = e ∙ sym e′

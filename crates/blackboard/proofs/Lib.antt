@@ -1,3 +1,4 @@
 -- Laws behind the blackboard's count, and what it counts.
 pub mod Steps
 pub mod Answers
+pub mod Determined

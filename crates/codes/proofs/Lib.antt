@@ -1,2 +1,3 @@
 -- Laws of marks.
 pub mod Marks
+pub mod Determined

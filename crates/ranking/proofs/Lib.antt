@@ -3,3 +3,4 @@ pub mod Lowest
 pub mod Marked
 pub mod Answers
 pub mod Ranking
+pub mod Determined

@@ -3,3 +3,4 @@ pub mod Numbers
 pub mod Cases
 pub mod Cutting
 pub mod Going
+pub mod Determined

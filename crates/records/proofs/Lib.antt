@@ -1,2 +1,3 @@
 -- Laws of the functions under `turn`.
 pub mod Arms
+pub mod Determined

@@ -1,21 +1,16 @@
--- Each entry point's statement determines its result and every list: any two that it allows are equal. Assumes nothing.
-use mathlib.Core.Path.{_≡_, sym, ap, _∙_}
-use mathlib.Core.List.{List}
-use Prim.Native.Nat.{ℕ}
-use Rattle.scope.specs.declared.Found.{Found}
-use Rattle.scope.specs.declared.Judged.{Judged}
-use Rattle.scope.specs.Walk.{Question}
-use Rattle.scope.specs.Calls.{Asked, leaves, nearestEnd, withinEnd, VerdictEnd, judges, verdictEnd}
-use Rattle.scope.proofs.Ends.{same-end}
+-- Each statement determines how a call ends. Assumes nothing.
+use Rattle.theory.specs.Statements.{Determined}
+use Rattle.theory.proofs.Statements.{all, kept}
+use Rattle.scope.specs.Calls.{SearchEnd, VerdictEnd}
+use Rattle.search.proofs.nearest
+use Rattle.search.proofs.within
+use Rattle.search.proofs.verdict
 
-pub nearest-determined : (c : Asked) (k : ℕ) {r r′ : Found} {m m′ e e′ d d′ : List ℕ} → leaves r m e d ≡ nearestEnd c k → leaves r′ m′ e′ d′ ≡ nearestEnd c k
-    → (r ≡ r′) × (m ≡ m′) × (e ≡ e′) × (d ≡ d′)
-nearest-determined c k = same-end
+pub nearest-determined : Determined nearest.ended nearest.Reads.Post
+nearest-determined κs a x y = all (λ (e : SearchEnd). (e .answer, kept 7 (e .marks, (e .entries, (e .distances, tt)))))
 
-pub within-determined : (c : Asked) (radius : ℕ) {r r′ : Found} {m m′ e e′ d d′ : List ℕ} → leaves r m e d ≡ withinEnd c radius
-    → leaves r′ m′ e′ d′ ≡ withinEnd c radius → (r ≡ r′) × (m ≡ m′) × (e ≡ e′) × (d ≡ d′)
-within-determined c radius = same-end
+pub within-determined : Determined within.ended within.Reads.Post
+within-determined κs a x y = all (λ (e : SearchEnd). (e .answer, kept 7 (e .marks, (e .entries, (e .distances, tt)))))
 
-pub verdict-determined : (ask : Question) (marks : List ℕ) (t g : ℕ) {r r′ : Judged} {m m′ : List ℕ} → judges r m ≡ verdictEnd ask marks t g
-    → judges r′ m′ ≡ verdictEnd ask marks t g → (r ≡ r′) × (m ≡ m′)
-verdict-determined ask marks t g p q = let s = p ∙ sym q in (ap (λ (x : VerdictEnd). x .answer) s, ap (λ (x : VerdictEnd). x .marks) s)
+pub verdict-determined : Determined verdict.ended verdict.Reads.Post
+verdict-determined κs a x y = all (λ (e : VerdictEnd). (e .answer, kept 8 (e .marks, tt)))

@@ -2,3 +2,4 @@
 pub mod Places
 pub mod Stars
 pub mod Theorems
+pub mod Determined

@@ -1,4 +1,4 @@
--- What the sky maker's answer says: its statement fixes it, and the code's bits are the cells that have a star. Assumes nothing.
+-- What the sky maker's answer says: the code's bits are the cells that have a star. Assumes nothing.
 use mathlib.Core.Path.{_≡_, sym, ap, ap₂, _∙_}
 use mathlib.Core.Logic.{_⊎_, inl, inr}
 use mathlib.Core.Bool.{true, false, _||_, or-false}
@@ -25,10 +25,6 @@ use Rattle.sky.specs.declared.Place.{Place}
 use Rattle.sky.specs.declared.Place.the-variants.{At, Refused}
 use Rattle.sky.proofs.Places.{onward, told}
 use Rattle.sky.proofs.Stars.{rows}
-
--- any two answers that `code`'s statement allows are equal
-pub same-answer : (u : Unit) (across up : List Float) {r r′ : Sky} → r ≡ skyAnswer u across up → r′ ≡ skyAnswer u across up → r ≡ r′
-same-answer u across up p q = p ∙ sym q
 
 -- ---- the bits of a code, for any cells
 

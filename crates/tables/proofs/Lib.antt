@@ -2,3 +2,4 @@
 pub mod Answers
 pub mod Parts
 pub mod Theorems
+pub mod Determined

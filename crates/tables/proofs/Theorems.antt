@@ -2,7 +2,6 @@
 use mathlib.Core.Path.{_≡_, refl, sym, ap, _∙_}
 use mathlib.Core.Logic.{⊎-elim}
 use mathlib.Core.Bool.{Bool, true, false, cond}
-use mathlib.Core.List.{List}
 use Prim.Native.Nat.{ℕ, _*_}
 use native.Mathlib.Omega.{arith}
 use lib.ListN.{length}
@@ -15,21 +14,11 @@ use Rattle.scope.specs.declared.Checked.the-variants as checked
 use Rattle.scope.specs.Shape.{m, startsBefore}
 use Rattle.scope.specs.Tables.{Index, index, n, builtStarts, builtIds, sound}
 use Rattle.scope.specs.Refusals.{oneToThree, unless}
-use Rattle.scope.specs.Calls.{BuildEnd, builds, buildAnswer, buildEnd, checkAnswer}
+use Rattle.scope.specs.Calls.{buildAnswer, buildEnd, checkAnswer}
 use Rattle.scope.proofs.Rows.{unless-map, Fits, unrefused}
 use Rattle.scope.proofs.Ends.{build-fits, build-done}
 use Rattle.scope.proofs.Shapes.{facts}
 use Rattle.scope.proofs.Bucketing.{rebuilt, built-sound, starts-before, ids-before}
-
--- ---- any two results that a statement allows are equal, and so are the lists
-
-pub same-build : (x : Index) {r r′ : Built} {s s′ d d′ : List ℕ} → builds r s d ≡ buildEnd x → builds r′ s′ d′ ≡ buildEnd x → (r ≡ r′) × (s ≡ s′) × (d ≡ d′)
-same-build x p q =
-    let e = p ∙ sym q in
-    (ap (λ (b : BuildEnd). b .answer) e, ap (λ (b : BuildEnd). b .starts) e, ap (λ (b : BuildEnd). b .ids) e)
-
-pub same-check : (x : Index) {r r′ : Checked} → r ≡ checkAnswer x → r′ ≡ checkAnswer x → r ≡ r′
-same-check x p q = p ∙ sym q
 
 -- ---- check says yes exactly for sound tables, where nothing is refused; builder and check refuse the same calls
 

@@ -16,3 +16,4 @@ pub mod Masks
 pub mod Pigeon
 pub mod Radii
 pub mod Opening
+pub mod Statements

@@ -2,3 +2,4 @@
 pub mod Lists
 pub mod Order
 pub mod Binomials
+pub mod Statements

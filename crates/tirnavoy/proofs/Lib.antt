@@ -1,2 +1,3 @@
 -- Laws behind the proofs of the exported functions.
 pub mod Ending
+pub mod Determined

@@ -1,0 +1,2 @@
+-- That each statement determines its result.
+pub mod Determined

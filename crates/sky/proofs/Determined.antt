@@ -1,0 +1,7 @@
+-- Each statement determines how a call ends. Assumes nothing.
+use Rattle.theory.specs.Statements.{Determined}
+use Rattle.theory.proofs.Statements.{result}
+use Rattle.sky.proofs.code
+
+pub code-determined : Determined code.ended code.Reads.Post
+code-determined κs a x y = result
