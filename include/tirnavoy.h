@@ -1,7 +1,8 @@
 /* Tirnavoy: exact search in Hamming distance over binary codes of star fields.
  *
  * Every function ends on every input, touches only the lists it is lent, and returns the number of the first refusal that fits (0: none). A list is a pointer and its number
- * of elements; the pointer is not null, also where that number is 0, and a list that a call writes overlaps no other. No call keeps a pointer.
+ * of elements; the pointer is not null, also where that number is 0, and a list that a call writes overlaps no other. An out is a pointer to one number, which the call always
+ * writes: it is not null, and the outs of a call are distinct and lie in none of its lists. No call keeps a pointer.
  *
  * A catalogue is two lists: n star numbers, and n codes of w words each, bit j of a code being bit j % 64 of its word j / 64. Entries are numbered from 0. Its tables are two
  * lists that tirnavoy_build fills. The macros below give the sizes of all lists.
@@ -33,11 +34,17 @@ enum tirnavoy_refusal {
 
 enum tirnavoy_verdict_kind { TIRNAVOY_NO_FIELD = 0, TIRNAVOY_UNSURE = 1, TIRNAVOY_MATCH = 2 };
 
-/* ---- sizes, for a listed w and s; constant expressions where w, s and n are */
+/* ---- sizes: constant expressions where w, s and n are; an argument is read more than once */
+
+/* 1 where w and s are listed, w being 1, 2 or 4 and s being 4, 8 or 16; otherwise 0, and calls with them return TIRNAVOY_SHAPE. #if can ask it. */
+#define TIRNAVOY_LISTED(w, s) (((w) == 1 || (w) == 2 || (w) == 4) && ((s) == 4 || (s) == 8 || (s) == 16))
+
+/* how many tables there are; 0 where w and s are not listed, also for the two lengths below */
+#define TIRNAVOY_TABLE_COUNT(w, s) (TIRNAVOY_LISTED(w, s) ? (size_t)64 * (w) / ((s) + ((s) == 0)) : 0)
 
 /* how many numbers the starts hold, and the ids of n entries */
-#define TIRNAVOY_STARTS_LENGTH(w, s) ((size_t)64 * (w) / (s) * (((size_t)1 << (s)) + 1))
-#define TIRNAVOY_IDS_LENGTH(w, s, n) ((size_t)64 * (w) / (s) * (n))
+#define TIRNAVOY_STARTS_LENGTH(w, s) (TIRNAVOY_TABLE_COUNT(w, s) * (((size_t)1 << ((s) & 31)) + 1))
+#define TIRNAVOY_IDS_LENGTH(w, s, n) (TIRNAVOY_TABLE_COUNT(w, s) * (n))
 
 /* how many mark words a search over n entries is lent */
 #define TIRNAVOY_MARK_WORDS(n) (((size_t)(n) + 63) / 64)

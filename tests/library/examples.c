@@ -6,6 +6,13 @@
 enum { W = 1, S = 8, N = 5, ROOM = 6, UNTOUCHED = 77 };
 enum { STARTS = TIRNAVOY_STARTS_LENGTH(W, S), IDS = TIRNAVOY_IDS_LENGTH(W, S, N), MARKS = TIRNAVOY_MARK_WORDS(N) };
 
+/* the preprocessor and a constant can ask for a listed shape, and a size of another is a constant too */
+#if !TIRNAVOY_LISTED(1, 8) || TIRNAVOY_LISTED(1, 0)
+#error "w = 1 and s = 8 are listed, s = 0 is not"
+#endif
+enum { LISTED = TIRNAVOY_LISTED(W, S), NO_STARTS = TIRNAVOY_STARTS_LENGTH(1, 0), NO_IDS = TIRNAVOY_IDS_LENGTH(3, 8, N) };
+static const size_t no_starts = TIRNAVOY_STARTS_LENGTH(1, 64), no_ids = TIRNAVOY_IDS_LENGTH(1, 0, N), no_tables = TIRNAVOY_TABLE_COUNT(1, 0);
+
 /* catalogue A, and the query 3 */
 static const uint32_t stars[N] = {10, 10, 20, 30, 40};
 static const uint64_t codes[N] = {0, 1, 0xFF, 0xFFFFFFFFFFFFFFFFu, 0x0101010101010101u};
@@ -125,6 +132,26 @@ static void tables(void) {
     starts[4]--;
 }
 
+/* for each w and s the size macros agree with the library: listed are those that it does not refuse 1, and it takes lists of those sizes and none that is one shorter */
+static void sizes(void) {
+    enum { TOP = 70 };
+    static const uint32_t one_star[1] = {0};
+    static const uint64_t its_code[TOP] = {0};
+    static uint32_t all_starts[TIRNAVOY_STARTS_LENGTH(4, 16)], all_ids[TIRNAVOY_IDS_LENGTH(4, 4, 1)];
+    expect(__LINE__, LISTED, 1);
+    expect(__LINE__, NO_STARTS + NO_IDS + no_starts + no_ids + no_tables, 0);
+    for (uint32_t w = 0; w <= TOP; w++) {
+        for (uint32_t s = 0; s <= TOP; s++) {
+            const size_t p = TIRNAVOY_STARTS_LENGTH(w, s), i = TIRNAVOY_IDS_LENGTH(w, s, 1);
+            const uint32_t returned = tirnavoy_build(w, s, one_star, 1, its_code, w, all_starts, p, all_ids, i);
+            expect(__LINE__, returned, TIRNAVOY_LISTED(w, s) ? TIRNAVOY_NONE : TIRNAVOY_SHAPE);
+            if (returned != TIRNAVOY_NONE) continue;
+            expect(__LINE__, tirnavoy_build(w, s, one_star, 1, its_code, w, all_starts, p - 1, all_ids, i), TIRNAVOY_TABLES);
+            expect(__LINE__, tirnavoy_build(w, s, one_star, 1, its_code, w, all_starts, p, all_ids, i - 1), TIRNAVOY_TABLES);
+        }
+    }
+}
+
 static void blackboard(void) {
     uint32_t buckets = UNTOUCHED;
     expect(__LINE__, tirnavoy_blackboard(W, S, 62, &buckets), TIRNAVOY_NONE);
@@ -134,6 +161,7 @@ static void blackboard(void) {
 }
 
 int main(void) {
+    sizes();
     tables();
     nearest();
     within();
