@@ -5,7 +5,7 @@ What counts as a name:
 - a link: each [label] outside code has a line '[label]: target' at the page's end, and each target, also of [text](target), is a file; each such line is used;
 - a word in backquotes with a slash: crate/label, without a dot in it, is a must-fail edit, and so is looked for as crates/CRATE/must-fail/LABEL.edit; any other is a file or
   folder, from the repository's top or from crates/, where * stands for anything;
-- crate::name is a public function of that crate's src; tirnavoy_name, or _name for short, is one of include/tirnavoy.h;
+- crate::name, or crate::Type::name, is a public function of that crate's src; tirnavoy_name, or _name for short, is one of include/tirnavoy.h;
 - Name.antt is a file of some crate; a crate's name is that crate;
 - in a table, any other word in backquotes is a definition or a theorem of an antt file, or a function or a type of a Rattle file. Where a column's head is one of NAMING, it is declared in
   one of the files that its row names ('there': that the row above names), if there are any; in other columns, in any file of crates/;
@@ -83,9 +83,9 @@ class Page:
             crate, label = word.split("/", 1)
             self.expect((TOP / "crates" / crate / "must-fail" / f"{label}.edit").is_file(), word, "is no must-fail edit")
         elif "::" in word:
-            crate, name = word.split("::", 1)
+            crate, *_, name = word.split("::")
             sources = (path.read_text(encoding="utf-8") for path in (TOP / "crates" / crate / "src").glob("*.rt"))
-            self.expect(any(re.search(rf"\bpub fn {name}\b", text) for text in sources), word, "is no public function")
+            self.expect(any(re.search(rf'\bpub (extern "C" )?fn {re.escape(name)}\b', text) for text in sources), word, "is no public function")
         elif word.startswith(("tirnavoy_", "_")):
             name = word if word.startswith("t") else f"tirnavoy{word}"
             self.expect(re.search(rf"\b{name}\(", HEADER), word, "is not in include/tirnavoy.h")
