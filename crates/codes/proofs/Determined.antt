@@ -1,8 +1,8 @@
--- Each statement determines how a call ends. Assumes nothing.
+-- Each statement determines how a call ends: its result, and what stands behind each `&mut`. Assumes nothing.
 use mathlib.Core.List.{List}
 use Prim.Native.Nat.{ℕ}
 use Rattle.theory.specs.Statements.{Determined}
-use Rattle.theory.proofs.Statements.{all, result, kept}
+use Rattle.theory.proofs.Statements.{whole, result, kept}
 use Rattle.codes.proofs.distance
 use Rattle.codes.proofs.substring
 use Rattle.codes.proofs.entry_substring
@@ -24,10 +24,10 @@ pub marked-determined : Determined marked.ended marked.Reads.Post
 marked-determined κs a x y = result
 
 pub mark-determined : Determined mark.ended mark.Reads.Post
-mark-determined κs a x y = all (λ (l : List ℕ). (tt, (l, kept 1 tt)))
+mark-determined κs a x y = whole (λ (l : List ℕ). (tt, (l, kept 1 tt)))
 
 pub clear-determined : Determined clear.ended clear.Reads.Post
-clear-determined κs a x y = all (λ (l : List ℕ). (tt, (l, kept 1 tt)))
+clear-determined κs a x y = whole (λ (l : List ℕ). (tt, (l, kept 1 tt)))
 
 pub wipe-determined : Determined wipe.ended wipe.Reads.Post
-wipe-determined κs a x y = all (λ (l : List ℕ). (tt, (l, kept 1 tt)))
+wipe-determined κs a x y = whole (λ (l : List ℕ). (tt, (l, kept 1 tt)))

@@ -1,3 +1,3 @@
--- Laws of marks.
+-- Laws of marks; and that each statement determines how a call ends.
 pub mod Marks
 pub mod Determined

@@ -1,4 +1,4 @@
--- Each statement determines how a call ends. Assumes nothing.
+-- Each statement determines how a call ends: its result, and what stands behind each `&mut`. Assumes nothing.
 use mathlib.Core.Path.{_≡_}
 use mathlib.Core.List.{List}
 use Prim.Native.Nat.{ℕ}

@@ -1,3 +1,3 @@
--- Laws of the functions under `turn`.
+-- Laws of the functions under `turn`; and that each statement determines how a call ends.
 pub mod Arms
 pub mod Determined

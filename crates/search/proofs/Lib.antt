@@ -1,4 +1,4 @@
--- Laws behind the searches.
+-- Laws behind the searches; and that each statement determines how a call ends.
 pub mod Refusing
 pub mod Listing
 pub mod Answering

@@ -1,4 +1,4 @@
--- Each statement determines how a call ends. Assumes nothing.
+-- Each statement determines how a call ends: its result, and what stands behind each `&mut`. Assumes nothing.
 use Rattle.theory.specs.Statements.{Determined}
 use Rattle.theory.proofs.Statements.{result}
 use Rattle.shapes.proofs.listed

@@ -1,2 +1,2 @@
--- That each statement determines its result.
+-- That each statement determines how a call ends.
 pub mod Determined

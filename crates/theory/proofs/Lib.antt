@@ -1,4 +1,4 @@
--- Laws of tests and of the list tools; order and stable placement; numbers put together from bits; the numbers of a few ones, and the steps that open buckets by them.
+-- Laws of tests and of the list tools; order and stable placement; numbers put together from bits; the numbers of a few ones, and the steps that open buckets by them; and statements made of equations.
 pub mod Tests
 pub mod Sums
 pub mod Lists

@@ -1,3 +1,3 @@
--- Laws behind the proofs of the exported functions.
+-- Laws behind the proofs of the exported functions; and that each statement determines how a call ends.
 pub mod Ending
 pub mod Determined

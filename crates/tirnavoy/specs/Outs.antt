@@ -20,7 +20,7 @@ given a k = cond (eqb (a .0) 0) (getD (a .1) k 0) 0
 abbrev pub returned : ℕ × List ℕ → ℕ → ℕ
 returned a k = cond (eqb (a .0) 0) 0 (getD (a .1) k 0)
 
--- sound, buckets
+-- sound; buckets
 abbrev pub oneOut : ℕ × List ℕ → List ℕ
 oneOut a = a .0 ∷ given a 0 ∷ []
 
@@ -34,10 +34,11 @@ searchOuts a =
     let six = eqb (a .0) 6 in
     a .0 ∷ cond six (returned a 0) (given a 0) ∷ given a 1 ∷ given a 2 ∷ cond six 0 (returned a 0) ∷ returned a 1 ∷ []
 
--- kind, star, other star, distance, farther distance; then opened, tested, table, bucket
+-- of a verdict: kind, star, other star, distance, farther distance
 abbrev pub spoken : ℕ × List ℕ → List ℕ
 spoken v = v .0 ∷ getD (v .1) 0 0 ∷ getD (v .1) 2 0 ∷ getD (v .1) 1 0 ∷ getD (v .1) 3 0 ∷ []
 
+-- the same of an answer, where opened and tested come before kind and values; then those two; table and bucket, returned with 7
 abbrev pub verdictOuts : ℕ × List ℕ → List ℕ
 verdictOuts a =
     a .0 ∷ given a 2 ∷ given a 3 ∷ given a 5 ∷ given a 4 ∷ given a 6 ∷ given a 0 ∷ given a 1 ∷ returned a 0 ∷ returned a 1 ∷ []
