@@ -37,7 +37,7 @@ same-length-2 c = search needs
 returns : tie.Need-returns Inv-loop μ-loop
 returns c =
     let at-loop : tie.At-loop Inv-loop μ-loop = search in
-    Stepping.walked-near _ _ _ _ _ _ (at-loop .loop .inv .0) (c .before .before .if1 .taken) (c .if2 .taken)
+    Stepping.walked-near _ _ _ _ _ _ (at-loop .loop .inv .0) (let l = c .before .before .if1 .taken in omega arith) (c .if2 .taken)
 
 step-requires : tie.Need-step-requires Inv-loop μ-loop
 step-requires c κs =
@@ -61,7 +61,7 @@ returns-2 c =
     let at-if2 : tie.Else2 Inv-loop μ-loop = search in
     let at-if1 : tie.Then1 Inv-loop μ-loop = search in
     let at-loop : tie.At-loop Inv-loop μ-loop = search in
-    Stepping.walked-bad _ _ _ _ _ _ (at-loop .loop .inv .0) (at-if1 .if1 .taken) (at-if2 .if2 .left) _ _ _ (at-step .step .ensures) _ (c .enum-told .given .1)
+    Stepping.walked-bad _ _ _ _ _ _ (at-loop .loop .inv .0) (let l = at-if1 .if1 .taken in omega arith) (at-if2 .if2 .left) _ _ _ (at-step .step .ensures) _ (c .enum-told .given .1)
 
 enum-told-2 : tie.Need-enum-told-2 Inv-loop μ-loop
 enum-told-2 c = search needs
@@ -78,7 +78,7 @@ loop-again c = (
       let at-if2 : tie.Else2 Inv-loop μ-loop = search in
       let at-if1 : tie.Then1 Inv-loop μ-loop = search in
       let at-loop : tie.At-loop Inv-loop μ-loop = search in
-      Stepping.far-more _ _ _ _ _ _ (at-loop .loop .inv .0) (at-if1 .if1 .taken) (at-if2 .if2 .left) _ _ _ (at-step .step .ensures) (c .enum-told2 .given .1)),
+      Stepping.far-more _ _ _ _ _ _ (at-loop .loop .inv .0) (let l = at-if1 .if1 .taken in omega arith) (at-if2 .if2 .left) _ _ _ (at-step .step .ensures) (c .enum-told2 .given .1)),
   search needs,
   search needs,
 )

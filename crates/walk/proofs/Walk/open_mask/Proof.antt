@@ -1,6 +1,8 @@
 -- `walk::Walk::open_mask` meets its contract. Assumes nothing.
 use Prim.Native.Nat.{_<_}
+use native.Mathlib.Omega.{arith}
 use lib.Bits.{bitXor, xor-lt}
+use lib.Count.{ones}
 use borrow.Author.Tests.{eq-eqb, ne-eqb}
 use Rattle.scope.specs.Shape.{len, size}
 use Rattle.scope.specs.Walk.{Question}
@@ -20,7 +22,7 @@ inside c = xor-lt (len (c .args .shape) (c .args .z)) _ _ (c .pre .1 .0 .1) (c .
 returns : tie.Need-returns
 returns c =
     let s : tie.Start = search in
-    rw (ne-eqb _ _ (c .if1 .taken)) (Opening.opening-none (Ask s) _ _ _ (s .pre .1 .0 .3) (s .pre .1 .1))
+    rw (ne-eqb (ones (s .args .mask)) (s .args .r) (let t = c .if1 .taken in omega arith)) (Opening.opening-none (Ask s) _ _ _ (s .pre .1 .0 .3) (s .pre .1 .1))
 
 open-requires : tie.Need-open-requires
 open-requires c κs =
