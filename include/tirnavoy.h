@@ -77,8 +77,10 @@ uint32_t tirnavoy_within(uint32_t w, uint32_t s, const uint32_t *stars, size_t s
                          const uint32_t *ids, size_t ids_len, const uint64_t *query, size_t query_len, uint32_t r, uint64_t *marks, size_t marks_len, uint32_t *entries,
                          size_t entries_len, uint32_t *distances, size_t distances_len, uint32_t *answers, uint32_t *opened, uint32_t *tested, uint32_t *table, uint32_t *bucket);
 
-/* Which field is it? Searches the nearest 2. *verdict becomes TIRNAVOY_NO_FIELD where there is no entry or the first is farther than the reach t; TIRNAVOY_UNSURE where a second is
- * less than the gap g farther than the first, with *star, *other, *distance, *farther of the two; otherwise TIRNAVOY_MATCH with *star and *distance. Refusals 1, 2, 3, 4, 5, 7. */
+/* Which field is it? Searches the nearest entry and its runner-up, the nearest with another star number; entries of one star are exposures of one field. *verdict becomes
+ * TIRNAVOY_NO_FIELD where there is no entry or the first is farther than the reach t; TIRNAVOY_UNSURE where the runner-up is less than the gap g farther than the first, with *star,
+ * *other, *distance, *farther of the two; otherwise TIRNAVOY_MATCH with *star and *distance. Where all entries have one star there is no runner-up, and the search takes every step
+ * to q. Refusals 1, 2, 3, 4, 5, 7. */
 uint32_t tirnavoy_verdict(uint32_t w, uint32_t s, const uint32_t *stars, size_t stars_len, const uint64_t *codes, size_t codes_len, const uint32_t *starts, size_t starts_len,
                           const uint32_t *ids, size_t ids_len, const uint64_t *query, size_t query_len, uint32_t t, uint32_t g, uint64_t *marks, size_t marks_len, uint32_t *verdict,
                           uint32_t *star, uint32_t *other, uint32_t *distance, uint32_t *farther, uint32_t *opened, uint32_t *tested, uint32_t *table, uint32_t *bucket);

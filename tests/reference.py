@@ -1,4 +1,4 @@
-"""The session of document 01, written from the document alone: plain scans, nothing shared with the proved program.
+"""The session of document 01, with the requests of 02, written from the documents alone: plain scans, nothing shared with the proved program.
 
 transcript(data) gives the whole output for an input of any bytes.
 """
@@ -65,6 +65,19 @@ class Catalogue:
         buckets, tested = self.walk(query, lambda tested, R: False, r)
         return [(d, i) for d, i in self.in_order(query, tested) if d <= r], buckets, len(tested)
 
+    def rivals(self, query):
+        """02, L1: the nearest entry and the nearest with another star number than it, where there are such."""
+        if not self.codes:
+            return [], 0, 0
+
+        def two_stars(tested, R):
+            return len({self.stars[i] for i in tested if bits_that_differ(self.codes[i], query) <= R}) >= 2
+
+        buckets, tested = self.walk(query, two_stars, self.q)
+        found = self.in_order(query, tested)
+        others = [(d, i) for d, i in found if self.stars[i] != self.stars[found[0][1]]]
+        return found[:1] + others[:1], buckets, len(tested)
+
 
 def number(data):
     return int.from_bytes(data, "little")
@@ -96,7 +109,7 @@ def verdict(catalogue, body):
     t, g = number(body[:2]), number(body[2:4])
     if t > catalogue.q or g > catalogue.q:
         return ["refused 4"]
-    found, _, _ = catalogue.nearest(number(body[4:]), 2)
+    found, _, _ = catalogue.rivals(number(body[4:]))
     if not found or found[0][0] > t:
         return ["none"]
     d, i = found[0]

@@ -1,5 +1,5 @@
 #!/usr/bin/env python3
-"""Feeds the built session program inputs and compares whole outputs with tests/reference.py, which was written from document 01 alone.
+"""Feeds the built session program inputs and compares whole outputs with tests/reference.py, which was written from documents 01 and 02 alone.
 
 usage: session_test.py [--seed N] [--random N] COMMAND..     (COMMAND runs the program on standard input)
 Its last line is 'N passed, M failed'; a failure leaves its input in a file that it names.
@@ -116,6 +116,9 @@ def limits():
         yield f"w {w}, sky", head(w) + sky(1, [(0.5, -1.25), (2.0, 3.0)])
     yield "equal codes", head() + entry(1, 5) + entry(1, 5) + entry(2, 5) + nearest(2, 5) + verdict(0, 0, 5) + verdict(0, 1, 5) + within(0, 5)
     yield "one entry", head() + entry(1, 5) + nearest(9, 0) + verdict(2, 64, 0) + verdict(1, 0, 0)
+    for stars in ((5, 5, 6, 7), (5, 5, 7, 6), (6, 5, 5, 7), (5, 5, 5, 6), (5, 5, 5, 5), (5, 6, 7, 8)):
+        exposures = head() + b"".join(entry(star, c) for star, c in zip(stars, (0, 3, 0xF0, 0xF000)))
+        yield f"exposures of stars {stars}", exposures + b"".join(verdict(t, g, c) for t in (0, 1, 64) for g in (0, 2, 3, 4, 5, 64) for c in (0, 3, 0xF0F0))
 
 
 def skies():
@@ -145,18 +148,19 @@ def random_input(rng):
         return value
 
     codes = [near(centre, rng.choice((0, 3, 12, q))) for _ in range(rng.choice((0, 1, 2, 5, 20, 60)))]
-    parts = [head(w)] + [entry(rng.choice((rng.randrange(4), rng.getrandbits(32))), c, w) for c in codes]
+    stars = rng.choice((1, 2, 2, 3, 4, 2**32))  # few, so that many entries have the same one
+    parts = [head(w)] + [entry(rng.randrange(stars), c, w) for c in codes]
     for _ in range(rng.randrange(6)):
         value = near(rng.choice(codes) if codes and rng.random() < 0.8 else centre, rng.choice((0, 2, 6, q)))
         limit = lambda: rng.choice((0, 1, 2, 5, rng.randrange(q + 1), q, q + 1, rng.getrandbits(16)))
         angle = lambda: rng.choice((rng.uniform(-4, 4), rng.uniform(-0.07, 0.07), rng.uniform(-5, 5), float(rng.randrange(-4, 4)), float_of(rng.getrandbits(64))))
-        question = rng.randrange(4)
+        question = rng.choice((0, 1, 2, 2, 3))
         if question == 0:
             parts.append(nearest(rng.choice((0, 1, 2, 3, len(codes), rng.getrandbits(16))), value, w))
         elif question == 1:
             parts.append(within(limit(), value, w))
         elif question == 2:
-            parts.append(verdict(limit(), limit(), value, w))
+            parts.append(verdict(rng.choice((limit(), 8, q)), rng.choice((limit(), 3, 12)), value, w))
         else:
             parts.append(sky(rng.choice((1, 2)), [(angle(), angle()) for _ in range(rng.randrange(4))]))
     if rng.random() < 0.5:

@@ -1,4 +1,4 @@
-/* Document 01's worked examples, asked through the header: every exported function and every out of it. C99 and C++.
+/* Document 01's worked examples and some of 02's requests, asked through the header: every exported function and every out of it. C99 and C++.
  * A wrong value is printed with its place; the last line says how many were right. */
 #include <stdio.h>
 #include "tirnavoy.h"
@@ -90,11 +90,48 @@ static void verdict(int line, uint32_t t, uint32_t g, const uint32_t *expected) 
     for (int o = 0; o < 9; o++) expect(line, got[o], expected[o]);
 }
 
+/* the runner-up is entry 2, star 20 at 6: seven steps, of a bucket each */
 static void verdicts(void) {
-    const uint32_t p10[] = {TIRNAVOY_NO_FIELD, 0, 0, 0, 0, 3, 3, 0, 0}, unsure[] = {TIRNAVOY_UNSURE, 10, 10, 1, 2, 3, 3, 0, 0}, match[] = {TIRNAVOY_MATCH, 10, 0, 1, 0, 3, 3, 0, 0};
+    const uint32_t p10[] = {TIRNAVOY_NO_FIELD, 0, 0, 0, 0, 7, 3, 0, 0}, unsure[] = {TIRNAVOY_UNSURE, 10, 20, 1, 6, 7, 3, 0, 0}, match[] = {TIRNAVOY_MATCH, 10, 0, 1, 0, 7, 3, 0, 0};
     verdict(__LINE__, 0, 0, p10);
-    verdict(__LINE__, 4, 3, unsure);
-    verdict(__LINE__, 4, 1, match);
+    verdict(__LINE__, 4, 6, unsure);
+    verdict(__LINE__, 4, 5, match);
+    verdict(__LINE__, 4, 3, match);
+}
+
+/* the verdict on other catalogues, with the query 0 */
+static void exposures(int line, const uint32_t *shown, const uint64_t *shots, size_t n, uint32_t t, uint32_t g, const uint32_t *expected) {
+    static const uint64_t nothing[W] = {0};
+    static uint32_t its_starts[STARTS], its_ids[IDS];
+    size_t length = TIRNAVOY_IDS_LENGTH(W, S, n);
+    uint32_t got[9];
+    expect(line, tirnavoy_build(W, S, shown, n, shots, n, its_starts, STARTS, its_ids, length), TIRNAVOY_NONE);
+    expect(line, tirnavoy_verdict(W, S, shown, n, shots, n, its_starts, STARTS, its_ids, length, nothing, W, t, g, marks, MARKS, &got[0], &got[1], &got[2], &got[3], &got[4], &got[5], &got[6],
+                                  &got[7], &got[8]),
+           TIRNAVOY_NONE);
+    for (int o = 0; o < 9; o++) expect(line, got[o], expected[o]);
+}
+
+/* 02, L1: two exposures of one field, and two others as far as each other, of which table 0 finds the later first. Distances 0, 2, 4, 4 */
+static void two_exposures(void) {
+    const uint64_t shots[] = {0, 3, 0xF0, 0xF000}, found_late[] = {0x0700, 0x01};
+    const uint32_t field[] = {5, 5, 6, 7}, other[] = {6, 5, 5, 5}, one[] = {5, 5, 5, 5}, two[] = {5, 6};
+    const uint32_t unsure[] = {TIRNAVOY_UNSURE, 5, 6, 0, 4, 5, 4, 0, 0}, match[] = {TIRNAVOY_MATCH, 5, 0, 0, 0, 5, 4, 0, 0}, second[] = {TIRNAVOY_UNSURE, 6, 5, 0, 2, 3, 4, 0, 0};
+    const uint32_t alone[] = {TIRNAVOY_MATCH, 5, 0, 0, 0, 2041, 4, 0, 0}, single[] = {TIRNAVOY_MATCH, 5, 0, 0, 0, 2041, 1, 0, 0}, none[] = {TIRNAVOY_NO_FIELD, 0, 0, 0, 0, 0, 0, 0, 0};
+    const uint32_t exchanged[] = {TIRNAVOY_UNSURE, 6, 5, 1, 3, 4, 2, 0, 0};
+    /* the runner-up is entry 2, which has a smaller number than entry 3; it is near after step 4, the fifth */
+    exposures(__LINE__, field, shots, 4, 0, 5, unsure);
+    exposures(__LINE__, field, shots, 4, 0, 4, match);
+    exposures(__LINE__, field, shots, 4, 64, 3, match);
+    /* the second entry has another star and is the runner-up, near after step 2 */
+    exposures(__LINE__, other, shots, 4, 0, 3, second);
+    /* one star: no runner-up, and the walk goes to step 64 = 8 * 8 + 0: 256 buckets of table 0 and 255 of each of the other 7 */
+    exposures(__LINE__, one, shots, 4, 0, 64, alone);
+    exposures(__LINE__, one, shots, 1, 0, 64, single);
+    /* no entries: nothing is opened */
+    exposures(__LINE__, one, shots, 0, 64, 64, none);
+    /* step 0 tests entry 0, at 3; step 1 tests entry 1, at 1 and of another star: entry 0 is its runner-up */
+    exposures(__LINE__, two, found_late, 2, 1, 3, exchanged);
 }
 
 static void sky(int line, int radians, double across, double up, uint32_t refusal, uint64_t expected) {
@@ -166,6 +203,7 @@ int main(void) {
     nearest();
     within();
     verdicts();
+    two_exposures();
     blackboard();
     skies();
     printf("%u passed, %u failed\n", passed, failed);

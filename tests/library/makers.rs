@@ -52,6 +52,17 @@ fn random_codes(n: usize, width: usize, centre: &[u64], rng: &mut Random) -> Vec
     codes
 }
 
+/// Few stars, so that many entries have the same one: one star, all but the last entry of one star, two to four, or as many as there are entries.
+fn random_stars(n: usize, rng: &mut Random) -> Vec<u32> {
+    let few = rng.pick(&[1, 1, 2, 2, 3, 4, n as u64]);
+    let mut stars: Vec<u32> = (0..n).map(|_| 7 * rng.below(few) as u32).collect();
+    match stars.last_mut() {
+        Some(last) if few == 1 && rng.one_in(2) => *last = 1,
+        _ => (),
+    }
+    stars
+}
+
 /// A query at some distance from the first entry; now and then a word too long.
 fn random_query(codes: &[u64], centre: &[u64], rng: &mut Random) -> Vec<u64> {
     let first = codes.get(..centre.len()).unwrap_or(centre);
@@ -107,7 +118,7 @@ fn random_lists(n: usize, number: u32, rng: &mut Random) -> Lists {
     Lists { marks: words(marks, rng), entries: vec![0x1111_1111; about(room, rng)], distances: vec![0x2222_2222; about(room, rng)] }
 }
 
-/// A catalogue with planted near neighbours and equal codes, and what a search of it is lent; the tables are still empty.
+/// A catalogue with planted near neighbours, equal codes and equal stars, and what a search of it is lent; the tables are still empty.
 fn random_call(rng: &mut Random) -> Call {
     let (w, s) = random_shape(rng);
     let width = if reference::listed(w, s) { w as usize } else { 1 };
@@ -115,7 +126,7 @@ fn random_call(rng: &mut Random) -> Call {
     let n = rng.pick(&[0, 1, 2, 3, 5, 17, 63, 64, 65, 130, 300]) as usize;
     let centre = words(width, rng);
     let codes = random_codes(n, width, &centre, rng);
-    let stars = (0..n).map(|_| rng.below(5) as u32 * 7).collect();
+    let stars = random_stars(n, rng);
     let starts = vec![STALE; if tables > 0 { about(tables * ((1 << s) + 1), rng) } else { 0 }];
     let ids = vec![STALE; about(tables * n, rng)];
     let query = random_query(&codes, &centre, rng);
@@ -171,8 +182,8 @@ fn run_call(which: u64, call: &Call) -> Result<u32, String> {
     let outcome = match which % 8 {
         0 => run_build(call),
         1 => run_check(call),
-        2..=4 => run_search(call, false),
-        5 | 6 => run_search(call, true),
+        2 | 3 => run_search(call, false),
+        4 | 5 => run_search(call, true),
         _ => run_verdict(call),
     };
     outcome.map_err(|error| format!("{error}\n{call:?}"))
@@ -213,6 +224,8 @@ pub fn large(rng: &mut Random, refusals: &mut [u64; 11]) -> Result<(), String> {
             call.number = r;
             met(run_search(&call, true)?);
         }
+        met(run_verdict(&call)?);
+        call.stars.fill(7);
         met(run_verdict(&call)?);
         call.ids[m * n - 1] ^= 1;
         met(run_check(&call)?);

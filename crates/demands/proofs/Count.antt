@@ -1,7 +1,7 @@
 -- Demand 3, the count: over trusted tables the search for the k nearest opens the buckets of the blackboard, each once, and reports their number. Assumes nothing.
 use mathlib.Core.Path.{_≡_, sym, ap, _∙_}
 use mathlib.Core.Logic.{inl, inr, ⊎-elim}
-use mathlib.Core.Bool.{Bool, true, false, _&&_, and-true, and-false}
+use mathlib.Core.Bool.{true, _&&_, and-true, and-false}
 use Prim.Native.Nat.{ℕ, suc, _+_, _-_, _*_, _^_, _≤_, _<_}
 use native.Mathlib.Omega.{arith}
 use lib.Arith.{digits-div, digits-mod}
@@ -12,7 +12,7 @@ use borrow.Author.Tests.{lt-ltb, le-ltb}
 use Rattle.theory.specs.Lists.{any, count, is}
 use Rattle.theory.specs.Binomials.{L}
 use Rattle.theory.proofs.Radii.{by-radius}
-use Rattle.theory.proofs.Tests.{lt-or-le, oneIf, leb-is-ltb}
+use Rattle.theory.proofs.Tests.{lt-or-le, oneIf, oneIf-positive, leb-is-ltb}
 use Rattle.theory.proofs.Counting.{count-cong}
 use Rattle.theory.proofs.Placing.{all, lower-all}
 use Rattle.theory.proofs.Times.{times, any-times}
@@ -63,11 +63,7 @@ opened-radii ask ls r a z v ha =
 pub opened-is : (ask : Question) → listed (ask .index .shape) ≡ true → (r a z v : ℕ) → a < m (ask .index .shape)
     → any (is z v) (opened ask (m (ask .index .shape) * r + a + 1)) ≡ inRadius ask r a z v
 opened-is ask ls r a z v ha =
-    any-times (is z v) (opened ask (m (ask .index .shape) * r + a + 1)) ∙ ap (ltb 0) (opened-radii ask ls r a z v ha) ∙ positive (inRadius ask r a z v)
-  where
-    positive : (b : Bool) → ltb 0 (oneIf b) ≡ b
-    positive true = lt-ltb 0 1 (omega arith)
-    positive false = le-ltb 0 0 (omega arith)
+    any-times (is z v) (opened ask (m (ask .index .shape) * r + a + 1)) ∙ ap (ltb 0) (opened-radii ask ls r a z v ha) ∙ oneIf-positive (inRadius ask r a z v)
 
 -- D is the K-th smallest distance: fewer than K entries are nearer than D, and K or more no farther
 pub kth-is : (ask : Question) (K : ℕ) → 0 < K → K ≤ n (ask .index)

@@ -13,11 +13,11 @@ use Rattle.scope.specs.declared.Judged.{Judged}
 use Rattle.scope.specs.declared.Judged.the-variants as judged
 use Rattle.scope.specs.Shape.{q, m}
 use Rattle.scope.specs.Tables.{Index, n, bad, ownsStart, ownsId}
-use Rattle.scope.specs.Walk.{Question, distanceOf, opened, tested, openedCount, testedCount}
+use Rattle.scope.specs.Walk.{Question, distanceOf, starOf, opened, tested}
 use Rattle.scope.specs.Search.{K, nearestSteps, nearest, withinSteps, within}
-use Rattle.scope.specs.Verdict.{verdictOf}
+use Rattle.scope.specs.Verdict.{rivals, verdictSteps, nearestRivals, verdictOf}
 use Rattle.scope.specs.Refusals.{fewPlaces, tooMany, lent, markWords, ofJudged}
-use Rattle.scope.specs.Calls.{Asked, judges, room, handed, walked, report, nearestAnswer, nearestEnd, withinAnswer, withinEnd, verdictAnswer, verdictEnd}
+use Rattle.scope.specs.Calls.{Asked, judges, room, handed, walked, report, nearestAnswer, nearestEnd, withinAnswer, withinEnd, verdictReport, verdictAnswer, verdictEnd}
 use Rattle.demands.specs.Neighbours.{kthDistance}
 use Rattle.demands.specs.Radii.{inRadius}
 use Rattle.demands.specs.Trust.{NearestCall}
@@ -26,7 +26,7 @@ use Rattle.demands.proofs.Sound.{none-bad}
 use Rattle.demands.proofs.Trusting.{Ready, nearest-ready}
 use Rattle.demands.proofs.Count.{opened-is, steps-are}
 use Rattle.demands.proofs.Owning.{AllSame}
-use Rattle.demands.proofs.Reaching.{reached-all, compare-same, compare-nearest}
+use Rattle.demands.proofs.Reaching.{reached-all, compare-same, compare-nearest, compare-verdict}
 use Rattle.demands.proofs.Agreeing.{quiet-handed, report-same, answers-same, alike, search-local}
 
 -- ---- within
@@ -76,38 +76,36 @@ nearest-local c k starts ids agree =
     (λ e s. (refl, nearest-same ask starts ids k e s))
     (compare-nearest ask starts ids k agree))
 
--- what a verdict says of l after N steps
-given : Question → ℕ → ℕ → ℕ → List ℕ → Judged
-given ask N t g l =
-    judged.Given (record {
-      verdict = verdictOf (λ i. getD (ask .index .stars) i 0) (distanceOf ask) t g l;
-      opened = openedCount ask N;
-      tested = testedCount ask N;
-    })
+-- the rivals under the other tables
+rivals-same : (ask : Question) (starts ids : List ℕ) → verdictSteps (reasked ask starts ids) ≡ verdictSteps ask
+    → AllSame (ask .index) starts ids (opened ask (verdictSteps ask)) → nearestRivals (reasked ask starts ids) ≡ nearestRivals ask
+unfolding nearestRivals
+rivals-same ask starts ids e s =
+    let other = reasked ask starts ids in
+    let top = q (ask .index .shape) + 1 in
+    ap (rivals (starOf ask))
+    (ap (λ (N : ℕ). ranked (distanceOf ask) (tested other N) (n (ask .index)) top) e ∙ answers-same ask starts ids (verdictSteps ask) top s)
 
 pub verdict-local : (ask : Question) (marks : List ℕ) (t g : ℕ) (starts ids : List ℕ)
     → let x = ask .index in
-    Agree x (reached x (opened ask (nearestSteps ask 2))) starts ids → verdictEnd (reasked ask starts ids) marks t g ≡ verdictEnd ask marks t g
-unfolding verdictEnd verdictAnswer given report
+    Agree x (reached x (opened ask (verdictSteps ask))) starts ids → verdictEnd (reasked ask starts ids) marks t g ≡ verdictEnd ask marks t g
+unfolding verdictEnd verdictAnswer verdictReport report
 verdict-local ask marks t g starts ids agree =
     let x = ask .index in
     let other = reasked ask starts ids in
-    let N = nearestSteps ask 2 in
-    let N′ = nearestSteps other 2 in
+    let N = verdictSteps ask in
+    let N′ = verdictSteps other in
+    let l = nearestRivals ask in
     let a = handed ask (t ∷ g ∷ []) marks in
-    let counts : AllSame x starts ids (opened ask N) → given other N t g (nearest ask 2) ≡ given ask N t g (nearest ask 2) = λ s.
-    ap (λ (r : Report). judged.Given (record {
-      verdict = verdictOf (λ i. getD (x .stars) i 0) (distanceOf ask) t g (nearest ask 2);
-      opened = r .opened;
-      tested = r .tested;
-    })) (report-same ask starts ids N [] s) in
+    let counts : AllSame x starts ids (opened ask N) → verdictReport other t g N l ≡ verdictReport ask t g N l = λ s.
+    ap (λ (r : Report). record { verdict = verdictOf (starOf ask) (distanceOf ask) t g l; opened = r .opened; tested = r .tested }) (report-same ask starts ids N [] s) in
     let answers : verdictAnswer other marks t g ≡ verdictAnswer ask marks t g =
     rw (agree .long-starts, agree .long-ids, ← append-nil (walked other N′), ← append-nil (walked ask N))
     (⊎-elim (λ h. h .2) (λ h. h .2 ∙ sym (h .3))
-    (alike ask starts ids N N′ a [] [] judged.Refused (given ask N t g (nearest ask 2)) (given other N′ t g (nearest other 2))
+    (alike ask starts ids N N′ a [] [] judged.Refused (judged.Given (verdictReport ask t g N l)) (judged.Given (verdictReport other t g N′ (nearestRivals other)))
     (quiet-handed ask (t ∷ g ∷ []) marks [] tt)
-    (λ e s. (refl, ap₂ (λ (k : ℕ) (l : List ℕ). given other k t g l) e (nearest-same ask starts ids 2 e s) ∙ counts s))
-    (compare-nearest ask starts ids 2 agree))) in
+    (λ e s. (refl, ap judged.Given (ap₂ (λ (k : ℕ) (l : List ℕ). verdictReport other t g k l) e (rivals-same ask starts ids e s) ∙ counts s)))
+    (compare-verdict ask starts ids agree))) in
     ap (λ (r : Judged). judges r (lent (ofJudged r .0) (markWords (n x)) [] marks)) answers
 
 -- ---- DEMAND 3, in the blackboard's words: D = m·r + a, and numbers that belong to no bucket in its radius can be changed to anything

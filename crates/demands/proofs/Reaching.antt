@@ -1,5 +1,5 @@
 -- A walk under other tables that agree on the places of the buckets it opens: the same steps, or the same bad bucket. Assumes nothing.
-use mathlib.Core.Path.{_≡_, refl, sym, ap, _∙_}
+use mathlib.Core.Path.{_≡_, refl, sym, ap}
 use mathlib.Core.Logic.{_⊎_, inl, inr, ⊎-elim}
 use mathlib.Core.Bool.{Bool, true, false, _&&_}
 use mathlib.Core.List.{List, [], _∷_, _++_}
@@ -7,7 +7,6 @@ use Prim.Native.Nat.{ℕ, zero, suc, _+_, _<_, zero-le}
 use native.Mathlib.Nat.{le-refl, eq-or-lt-of-le}
 use native.Mathlib.Omega.{arith}
 use lib.Dec.{leb}
-use lib.ListN.{length}
 use Rattle.theory.specs.Lists.{cat, any, has}
 use Rattle.theory.proofs.Tests.{either, both-ways, or-false-left, or-false-right}
 use Rattle.theory.proofs.Counting.{upto-cong}
@@ -15,11 +14,12 @@ use Rattle.theory.proofs.Order.{All, all-imp}
 use Rattle.scope.specs.declared.Refusal.{Refusal}
 use Rattle.scope.specs.Shape.{q}
 use Rattle.scope.specs.Tables.{Index, n, bad}
-use Rattle.scope.specs.Walk.{Question, distanceOf, opens, opened, tested, near}
-use Rattle.scope.specs.Search.{K, nearestSteps}
+use Rattle.scope.specs.Walk.{Question, distanceOf, starOf, opens, opened, tested, near}
+use Rattle.scope.specs.Search.{K, stepsUntil, nearestSteps}
+use Rattle.scope.specs.Verdict.{twoStars, verdictSteps}
 use Rattle.scope.specs.Refusals.{met, unless}
 use Rattle.theory.proofs.Lists.{first-same, first-later}
-use Rattle.scope.proofs.Steps.{opened-front, enough, steps-none, steps-some}
+use Rattle.scope.proofs.Steps.{opened-front, enough, steps-none, steps-some, verdict-none, verdict-some}
 use Rattle.demands.specs.Places.{reached, reasked, Agree}
 use Rattle.demands.proofs.Owning.{Same, AllSame, all-same}
 use Rattle.theory.proofs.Elements.{all-any-same, all-front}
@@ -95,14 +95,12 @@ module _ (ask : Question) (starts ids : List ℕ) where
   unfolding tested opened opens
   tested-same N h i = all-any-same _ _ (opened ask N) (all-imp _ _ (opened ask N) (λ b s. ap (has i) (s .lists)) h)
 
-  enough-same : (k N R : ℕ) → R < N → AllSame (ask .index) starts ids (opened ask N)
-      → enough (reasked ask starts ids) k R ≡ enough ask k R
+  near-same : (N R : ℕ) → R < N → AllSame (ask .index) starts ids (opened ask N) → near (reasked ask starts ids) R ≡ near ask R
   unfolding near
-  enough-same k N R l h =
+  near-same N R l h =
       let (t, e) = opened-front ask (R + 1) N (omega arith) in
       let s = all-front _ (opened ask (R + 1)) t (rw e at h) in
-      ap (λ (l : List ℕ). leb (K (ask .index) k) (length l))
-      (upto-cong _ _ (n (ask .index)) (λ i _. ap (λ (b : Bool). leb (distanceOf ask i) R && b) (tested-same (R + 1) s i)))
+      upto-cong _ _ (n (ask .index)) (λ i _. ap (λ (b : Bool). leb (distanceOf ask i) R && b) (tested-same (R + 1) s i))
 
 -- Of a walk of N steps under one pair of tables and of N′ under the other: all buckets are the same, or the first bad one
 pub data Compared (ask : Question) (starts ids : List ℕ) (N N′ : ℕ) : Type 0 where
@@ -131,21 +129,42 @@ module _ (ask : Question) (starts ids : List ℕ) (N : ℕ) (agree : Agree (ask 
   pub compare-same : Compared ask starts ids N N
   compare-same = compare N (λ _. refl) (λ R l _. l)
 
-pub compare-nearest : (ask : Question) (starts ids : List ℕ) (k : ℕ) → Agree (ask .index) (reached (ask .index) (opened ask (nearestSteps ask k))) starts ids
-    → Compared ask starts ids (nearestSteps ask k) (nearestSteps (reasked ask starts ids) k)
-compare-nearest ask starts ids k agree =
-    ⊎-elim
-    (λ (none : 0 ≡ K (ask .index) k). rw (steps-none other k (sym none), ← steps-none ask k (sym none)) (compare-same ask starts ids (nearestSteps ask k) agree))
-    (λ (some : 0 < K (ask .index) k).
-    let N = steps-some ask k some in
-    let N′ = steps-some other k some in
-    compare ask starts ids (nearestSteps ask k) agree (nearestSteps other k)
-    (λ s. N′ ∙ ap (λ (R : ℕ). R + 1) (first-same (enough ask k) (enough other k) 0 top (λ j l. enough-same ask starts ids k (nearestSteps ask k) j (omega arith) s)) ∙ sym N)
-    (λ R l s. let later = first-later (enough ask k) (enough other k) 0 top R (λ j jR. enough-same ask starts ids k R j jR s) (omega arith) in omega arith))
-    (eq-or-lt-of-le zero-le)
-  where
-    other : Question
-    other = reasked ask starts ids
+-- a walk that goes on until enough is near
+module _ (ask : Question) (starts ids : List ℕ) (enough : List ℕ → Bool) where
+  compare-until : Agree (ask .index) (reached (ask .index) (opened ask (stepsUntil ask enough))) starts ids
+      → Compared ask starts ids (stepsUntil ask enough) (stepsUntil (reasked ask starts ids) enough)
+  compare-until agree =
+      compare ask starts ids (stepsUntil ask enough) agree (stepsUntil (reasked ask starts ids) enough)
+      (λ s. ap (λ (R : ℕ). R + 1) (first-same here there 0 top (λ j l. ap enough (near-same ask starts ids (stepsUntil ask enough) j (omega arith) s))))
+      (λ R l s. let later = first-later here there 0 top R (λ j jR. ap enough (near-same ask starts ids R j jR s)) (omega arith) in omega arith)
+    where
+      here : ℕ → Bool
+      here R = enough (near ask R)
 
-    top : ℕ
-    top = q (ask .index .shape)
+      there : ℕ → Bool
+      there R = enough (near (reasked ask starts ids) R)
+
+      top : ℕ
+      top = q (ask .index .shape)
+
+module _ (ask : Question) (starts ids : List ℕ) where
+  abbrev other : Question
+  other = reasked ask starts ids
+
+  pub compare-nearest : (k : ℕ) → Agree (ask .index) (reached (ask .index) (opened ask (nearestSteps ask k))) starts ids
+      → Compared ask starts ids (nearestSteps ask k) (nearestSteps other k)
+  compare-nearest k agree =
+      ⊎-elim
+      (λ (none : 0 ≡ K (ask .index) k). rw (steps-none other k (sym none), ← steps-none ask k (sym none)) (compare-same ask starts ids (nearestSteps ask k) agree))
+      (λ (some : 0 < K (ask .index) k).
+      rw (steps-some ask k some, steps-some other k some) (compare-until ask starts ids (enough ask k) (rw (steps-some ask k some) at agree)))
+      (eq-or-lt-of-le zero-le)
+
+  pub compare-verdict : Agree (ask .index) (reached (ask .index) (opened ask (verdictSteps ask))) starts ids
+      → Compared ask starts ids (verdictSteps ask) (verdictSteps other)
+  compare-verdict agree =
+      ⊎-elim
+      (λ (none : 0 ≡ n (ask .index)). rw (verdict-none other (sym none), ← verdict-none ask (sym none)) (compare-same ask starts ids (verdictSteps ask) agree))
+      (λ (some : 0 < n (ask .index)).
+      rw (verdict-some ask some, verdict-some other some) (compare-until ask starts ids (twoStars (starOf ask)) (rw (verdict-some ask some) at agree)))
+      (eq-or-lt-of-le zero-le)

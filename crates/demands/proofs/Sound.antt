@@ -27,7 +27,7 @@ use Rattle.scope.specs.Search.{K, nearestSteps, nearest, withinSteps, within}
 use Rattle.scope.proofs.Shapes.{facts}
 use Rattle.scope.proofs.Bucketing.{substring-small, bucket-is, not-bad}
 use Rattle.scope.proofs.Opening.{asks, opened-by}
-use Rattle.scope.proofs.Steps.{enough, steps-at}
+use Rattle.scope.proofs.Steps.{enough, until-at, steps-some}
 use Rattle.scope.proofs.Codes.{substring-lt, distance-tables, distance-le, distance-sym}
 use Rattle.demands.specs.Neighbours.{neighbours, everyEntry, kthDistance}
 use Rattle.theory.proofs.Elements.{any-more, all-any-false, all-any-same, all-map}
@@ -122,8 +122,8 @@ module _ (ask : Question) (ls : listed (ask .index .shape) ≡ true) (s : sound 
   steps-kth h =
       let x = ask .index in
       let D = kthDistance ask (K x k) in
-      let (fewer, enough, top) = kth-smallest ask (K x k) h (omega arith) in
-      steps-at ask k D h top
+      let (fewer, many, top) = kth-smallest ask (K x k) h (omega arith) in
+      steps-some ask k h ∙ until-at ask (enough ask k) D top
       (λ j l. lt-leb (K x k) (length (near ask j)) (omega (arith, near-scan ask ls s j, lower-mono (n x) (distanceOf ask) all (suc j) D l)))
       (le-leb (K x k) (length (near ask D)) (omega (arith, near-scan ask ls s D)))
 

@@ -10,10 +10,10 @@ use lib.Dec.{eqb, ltb, leb}
 use lib.Count.{ones}
 use lib.ListN.{length, length-append, length-map}
 use borrow.Author.Tests.{lt-ltb, eqb-true, ltb-false, leb-false}
-use Rattle.theory.specs.Lists.{cat, count, any, has}
+use Rattle.theory.specs.Lists.{cat, upto, count, any, has}
 use Rattle.theory.proofs.Tests.{either, both-ways, or-true, or-false-left, or-false-right, leb-is-ltb}
 use Rattle.theory.proofs.Lists.{cat-suc, any-append, any-one, any-none, any-map, any-cat-yes, any-cat-at}
-use Rattle.theory.proofs.Counting.{count-le, count-cong}
+use Rattle.theory.proofs.Counting.{count-le, count-cong, upto-cong}
 use Rattle.theory.proofs.Placing.{length-ranked}
 use Rattle.scope.specs.Codes.{codeOf}
 use Rattle.scope.specs.Shape.{q, size, m}
@@ -53,11 +53,11 @@ module _ (ask : Question) where
       (omega (arith, opened-few f N, count-le t (size (ask .index .shape) a), few-buckets (ask .index .shape) f a))
 
   -- after R + 1 steps: nearer than R + 1
-  pub near-below : (R : ℕ) → length (near ask R) ≡ count (λ i. ltb (distanceOf ask i) (suc R) && tested ask (suc R) i) (n (ask .index))
+  pub near-is : (R : ℕ) → near ask R ≡ upto (λ i. ltb (distanceOf ask i) (suc R) && tested ask (suc R) i) (n (ask .index))
   unfolding near
-  near-below R =
-      ap (λ (N : ℕ). count (λ i. leb (distanceOf ask i) R && tested ask N i) (n (ask .index))) (add-one R)
-      ∙ count-cong _ _ (n (ask .index)) (λ i _. ap (λ (b : Bool). b && tested ask (suc R) i) (leb-is-ltb (distanceOf ask i) R))
+  near-is R =
+      ap (λ (N : ℕ). upto (λ i. leb (distanceOf ask i) R && tested ask N i) (n (ask .index))) (add-one R)
+      ∙ upto-cong _ _ (n (ask .index)) (λ i _. ap (λ (b : Bool). b && tested ask (suc R) i) (leb-is-ltb (distanceOf ask i) R))
 
 -- ---- what a bucket lists that is not bad
 

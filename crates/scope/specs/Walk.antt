@@ -3,7 +3,7 @@ use mathlib.Core.Bool.{Bool, _&&_}
 use mathlib.Core.List.{List, map}
 use Prim.Native.Nat.{ℕ, _+_, _-_, _*_, _/_, _%_}
 use lib.Dec.{eqb, leb}
-use lib.ListN.{length}
+use lib.ListN.{length, getD}
 use lib.Bits.{bitXor}
 use lib.Count.{ones}
 use Rattle.theory.specs.Lists.{cat, upto, count, any, has}
@@ -34,6 +34,10 @@ module _ (ask : Question) where
   -- entry i's distance from the query
   abbrev pub distanceOf : ℕ → ℕ
   distanceOf i = distance (q (ask .index .shape)) (codeOf (ask .index .shape .w) (ask .index .codes) i) (ask .query)
+
+  -- entry i's star
+  abbrev pub starOf : ℕ → ℕ
+  starOf i = getD (ask .index .stars) i 0
 
   -- step R = m·r' + a opens in table a every bucket whose exclusive-or with the query's substring has exactly r' ones, ascending by it
   unfoldable pub opens : ℕ → List (ℕ × ℕ)

@@ -1,53 +1,61 @@
--- The verdict on the first answers in two-place lists. Assumes nothing.
-use mathlib.Core.Path.{_≡_, refl, ap}
-use mathlib.Core.Logic.{⊎-elim}
-use mathlib.Core.List.{List, [], _∷_}
-use Prim.Native.Nat.{ℕ, _-_, _≤_, _<_}
+-- The verdict on the rivals of a list. Assumes nothing.
+use mathlib.Core.Path.{_≡_, refl, sym, ap₂}
+use mathlib.Core.List.{[], _∷_}
+use Prim.Native.Nat.{ℕ, _-_, _/_, _%_, _≤_, _<_}
 use native.Mathlib.Omega.{arith}
-use Rattle.theory.proofs.Tests.{eq-or-ne}
-use lib.ListN.{length, getD, take}
 use borrow.Author.Tests.{lt-ltb, le-ltb}
-use Rattle.scope.specs.declared.Verdict.{Verdict}
 use Rattle.scope.specs.declared.Verdict.the-variants.{None, Unsure, Match}
 use Rattle.scope.specs.Verdict.{verdictOf}
+use Rattle.walk.specs.declared.Rivals.{Rivals}
+use Rattle.walk.specs.Rivals.{nobody}
+use Rattle.search.specs.Judge.{Its, Says}
 
-pair : (l : List ℕ) → length l ≡ 2 → l ≡ getD l 0 0 ∷ getD l 1 0 ∷ []
-pair [] h = absurd (omega arith)
-pair (x ∷ []) h = absurd (omega arith)
-pair (x ∷ y ∷ []) h = refl
-pair (x ∷ y ∷ z ∷ l) h = absurd (omega arith)
+-- a standing holds the distance and the entry
+distance-is : (dist : ℕ → ℕ) (x i : ℕ) → Its dist x i → x / 65536 ≡ dist i
+distance-is dist x i h = let e = h .is in let l = h .few in omega arith
 
-module _ (star dist : ℕ → ℕ) (t g answers : ℕ) (entries distances : List ℕ) (long : length entries ≡ 2) (few : answers ≤ 2)
-    (same : (p : ℕ) → p < answers → getD distances p 0 ≡ dist (getD entries p 0)) where
-  abbrev verdict : Verdict
-  verdict = verdictOf star dist t g (take answers entries)
+entry-is : (dist : ℕ → ℕ) (x i : ℕ) → Its dist x i → x % 65536 ≡ i
+entry-is dist x i h = let e = h .is in let l = h .few in omega arith
 
-  one : answers ≡ 1 → take answers entries ≡ getD entries 0 0 ∷ []
-  one e = rw e (ap (take 1) (pair entries long))
-
-  two : answers ≡ 2 → take answers entries ≡ getD entries 0 0 ∷ getD entries 1 0 ∷ []
-  two e = rw e (ap (take 2) (pair entries long))
-
-  pub nothing : answers ≡ 0 → verdict ≡ None
+module _ (star : ℕ → ℕ) (t g : ℕ) (r : Rivals) where
+  pub nothing : r .first ≡ nobody → Says star t g r None
   unfolding verdictOf
-  nothing e = rw e
+  nothing e dist [] s = refl
+  nothing e dist (a ∷ []) s = absurd (let l = s .0 .somebody in omega arith)
+  nothing e dist (a ∷ b ∷ l) s = absurd (let l = s .0 .somebody in omega arith)
 
-  pub alone : answers ≡ 1 → getD distances 0 0 ≤ t → verdict ≡ Match (star (getD entries 0 0)) (getD distances 0 0)
-  unfolding verdictOf
-  alone e h = rw (one e, ← same 0 (omega arith), le-ltb t (getD distances 0 0) h)
+  module _ (some : r .first ≡ nobody → ⊥) where
+    pub far : t < r .first / 65536 → Says star t g r None
+    unfolding verdictOf
+    far h dist [] s = absurd (some s)
+    far h dist (a ∷ []) s = rw (lt-ltb t (dist a) (omega (arith, distance-is dist (r .first) a (s .0))))
+    far h dist (a ∷ b ∷ l) s = rw (lt-ltb t (dist a) (omega (arith, distance-is dist (r .first) a (s .0))))
 
-  pub close : answers ≡ 2 → getD distances 0 0 ≤ t → getD distances 1 0 - getD distances 0 0 < g
-      → verdict ≡ Unsure (star (getD entries 0 0)) (star (getD entries 1 0)) (getD distances 0 0) (getD distances 1 0)
-  unfolding verdictOf
-  close e h k = rw (two e, ← same 0 (omega arith), ← same 1 (omega arith), le-ltb t (getD distances 0 0) h, lt-ltb (getD distances 1 0 - getD distances 0 0) g k)
+    module _ (near : r .first / 65536 ≤ t) where
+      pub alone : r .other ≡ nobody → Says star t g r (Match (r .star) (r .first / 65536))
+      unfolding verdictOf
+      alone h dist [] s = absurd (some s)
+      alone h dist (a ∷ []) s =
+          let d = distance-is dist (r .first) a (s .0) in
+          rw (le-ltb t (dist a) (omega arith)) (ap₂ Match (sym (s .1)) d)
+      alone h dist (a ∷ b ∷ l) s = absurd (let o = s .2 .somebody in omega arith)
 
-  pub clear : answers ≡ 2 → getD distances 0 0 ≤ t → g ≤ getD distances 1 0 - getD distances 0 0 → verdict ≡ Match (star (getD entries 0 0)) (getD distances 0 0)
-  unfolding verdictOf
-  clear e h k = rw (two e, ← same 0 (omega arith), ← same 1 (omega arith), le-ltb t (getD distances 0 0) h, le-ltb (getD distances 1 0 - getD distances 0 0) g k)
+      module _ (other : r .other ≡ nobody → ⊥) where
+        pub close : r .other / 65536 - r .first / 65536 < g → Says star t g r (Unsure (r .star) (star (r .other % 65536)) (r .first / 65536) (r .other / 65536))
+        unfolding verdictOf
+        close h dist [] s = absurd (some s)
+        close h dist (a ∷ []) s = absurd (other (s .2))
+        close h dist (a ∷ b ∷ l) s =
+            let d = distance-is dist (r .first) a (s .0) in
+            let f = distance-is dist (r .other) b (s .2) in
+            let i = entry-is dist (r .other) b (s .2) in
+            rw (le-ltb t (dist a) (omega arith), lt-ltb (dist b - dist a) g (omega arith)) (λ k. Unsure (sym (s .1) k) (star (i k)) (d k) (f k))
 
-  pub far : 0 < answers → t < getD distances 0 0 → verdict ≡ None
-  unfolding verdictOf
-  far h k =
-      ⊎-elim (λ (e : answers ≡ 1). rw (one e, ← same 0 (omega arith), lt-ltb t (getD distances 0 0) k))
-      (λ (ne : answers ≡ 1 → ⊥). rw (two (omega arith), ← same 0 (omega arith), lt-ltb t (getD distances 0 0) k))
-      (eq-or-ne answers 1)
+        pub clear : g ≤ r .other / 65536 - r .first / 65536 → Says star t g r (Match (r .star) (r .first / 65536))
+        unfolding verdictOf
+        clear h dist [] s = absurd (some s)
+        clear h dist (a ∷ []) s = absurd (other (s .2))
+        clear h dist (a ∷ b ∷ l) s =
+            let d = distance-is dist (r .first) a (s .0) in
+            let f = distance-is dist (r .other) b (s .2) in
+            rw (le-ltb t (dist a) (omega arith), le-ltb (dist b - dist a) g (omega arith)) (ap₂ Match (sym (s .1)) d)

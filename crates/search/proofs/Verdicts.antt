@@ -1,62 +1,157 @@
--- From the nearest two, in lists of the verdict's own, to the verdict. Assumes nothing.
-use mathlib.Core.Path.{_≡_, sym, ap, _∙_}
-use mathlib.Core.Logic.{⊎-elim}
-use mathlib.Core.Bool.{false}
-use mathlib.Core.List.{List, [], _∷_, _++_, map}
+-- From the walk's rivals to the verdict. Assumes nothing.
+use mathlib.Core.Path.{_≡_, refl, sym, ap, subst, _∙_}
+use mathlib.Core.Logic.{inl, inr, ⊎-elim}
+use mathlib.Core.Bool.{Bool, true, false, _&&_, cond, and-false}
+use mathlib.Core.List.{List, [], _∷_, _++_}
 use Prim.Native.Nat.{ℕ, max, _+_, _≤_, _<_}
-use native.Mathlib.Nat.{min-le-left}
 use native.Mathlib.Omega.{arith}
-use lib.ListN.{length, getD, take, drop, length-take}
-use lib.Seq.{ext-getD, getD-take, length-take-le}
-use Rattle.theory.specs.Lists.{over, padded}
-use Rattle.theory.proofs.Tests.{lt-or-le}
-use Rattle.theory.proofs.Lists.{length-padded, length-over, over-at, getD-map}
-use Rattle.theory.proofs.Placing.{Here, here, length-ranked, place-key}
+use lib.Dec.{eqb, ltb}
+use lib.ListN.{drop}
+use borrow.Author.Tests.{lt-ltb}
+use Rattle.theory.specs.Lists.{padded}
+use Rattle.theory.proofs.Tests.{either, eq-or-ne, both-ways}
+use Rattle.theory.proofs.Lists.{length-padded}
+use Rattle.theory.proofs.Order.{Before}
 use Rattle.scope.specs.declared.Refusal.{Refusal}
-use Rattle.scope.specs.declared.Report.{Report}
+use Rattle.scope.specs.declared.Refusal.the-variants.{BadBucket}
 use Rattle.scope.specs.declared.Verdict.{Verdict}
-use Rattle.scope.specs.declared.Found.{Found}
-use Rattle.scope.specs.declared.Found.the-variants as found
+use Rattle.scope.specs.declared.VerdictReport.{VerdictReport}
 use Rattle.scope.specs.declared.Judged.{Judged}
 use Rattle.scope.specs.declared.Judged.the-variants as judged
+use Rattle.scope.specs.Codes.{codeOf}
 use Rattle.scope.specs.Shape.{q}
-use Rattle.scope.specs.Tables.{n}
-use Rattle.scope.specs.Walk.{Question, distanceOf, tested}
-use Rattle.scope.specs.Search.{K, nearestSteps, answers, nearest}
-use Rattle.scope.specs.Verdict.{verdictOf}
-use Rattle.scope.specs.Refusals.{ofFound, unless, oneToFive, markWords, lent}
-use Rattle.scope.specs.Calls.{Asked, asked, handed, walked, report, SearchEnd, leaves, searchEnd, judges, verdictAnswer, verdictEnd}
-use Rattle.scope.proofs.Rows.{oneFits, unless-append, unless-none, all-clear, one-refuses, two-limits, lent-front}
+use Rattle.scope.specs.Tables.{Index, n, bad}
+use Rattle.scope.specs.Walk.{Question, distanceOf, starOf, opened, tested}
+use Rattle.scope.specs.Verdict.{verdictOf, verdictSteps, nearestRivals}
+use Rattle.scope.specs.Refusals.{ofJudged, changes, met, unless, oneToFive, markWords, lent}
+use Rattle.scope.specs.Calls.{handed, walked, judges, verdictReport, verdictAnswer, verdictEnd}
+use Rattle.scope.proofs.Rows.{unless-append, unless-none, two-limits}
+use Rattle.scope.proofs.Codes.{distance-le}
+use Rattle.scope.proofs.Shapes.{facts}
+use Rattle.scope.proofs.Stars.{Foremost, Runner, Told, told}
 use Rattle.shapes.specs.declared.Early.the-variants.{Fine, Refused}
-use Rattle.search.specs.Judge.{FirstTwo}
-use Rattle.search.specs.Past.{nearestFound, nearestPast}
+use Rattle.walk.specs.declared.Met.the-variants as walk
+use Rattle.walk.specs.declared.Rivals.{Rivals}
+use Rattle.walk.specs.declared.Walk.{Walk}
+use Rattle.walk.specs.Rivals.{standing, nobody, Best}
+use Rattle.walk.specs.Steps.{Asked, metIn, Ended, Walked}
+use Rattle.walk.proofs.Opening.{walk-clear, walk-refused}
+use Rattle.search.specs.Judge.{Judgeable, Its, Stand}
+use Rattle.search.specs.Past.{verdictFound}
 use Rattle.search.proofs.Refusing.{none-fits, one-fits}
-use Rattle.search.proofs.Answering.{early-keeps, same-k}
+use Rattle.search.proofs.Answering.{early-keeps}
 
-listed-apart : (r : Report) (f : Refusal) → found.Refused f ≡ found.Listed r → ⊥
-listed-apart r f e = let y : _≡_ {A = ℕ} 0 1 = cc in omega arith
+-- ---- the best two of those that pass are the rivals of their list
 
-refused-same : (f g : Refusal) → found.Refused f ≡ found.Refused g → f ≡ g
-refused-same f g e = cc
+module _ (star dist : ℕ → ℕ) (test : ℕ → Bool) (few : (i : ℕ) → test i ≡ true → i < 65536) (low : (i : ℕ) → test i ≡ true → dist i ≤ 256) (r : Rivals)
+    (b : Best star (standing dist) test r) where
+  -- what stands before stands lower
+  lower : (i j : ℕ) → test i ≡ true → Before dist i j → standing dist i < standing dist j
+  lower i j h (inl l) = omega (arith, few i h)
+  lower i j h (inr l) = omega (arith, l .0, l .1)
 
--- ---- refused before the walk
+  its : (x i : ℕ) → test i ≡ true → x ≡ standing dist i → Its dist x i
+  its x i h e = record { is = e; few = few i h; somebody = omega (arith, few i h, low i h) }
+
+  first-is : (a : ℕ) → Foremost star dist test a → (r .first ≡ standing dist a) × (star a ≡ r .star)
+  first-is a f =
+      ⊎-elim (λ (e : r .first ≡ nobody). absurd (omega (arith, b .first a (f .passes), its (standing dist a) a (f .passes) refl .somebody)))
+      (λ w.
+      ⊎-elim (λ (e : w .0 ≡ a). (w .2 ∙ ap (standing dist) e, sym (ap star e) ∙ w .3))
+      (λ (ne : w .0 ≡ a → ⊥). absurd (omega (arith, lower a (w .0) (f .passes) (f .before (w .0) (w .1) ne), w .2, b .first a (f .passes)))) (eq-or-ne (w .0) a))
+      (b .whose)
+
+  other-is : (a c : ℕ) → star a ≡ r .star → (star c ≡ star a → ⊥) → test c ≡ true
+      → ((j : ℕ) → test j ≡ true → (star j ≡ star a → ⊥) → (j ≡ c → ⊥) → Before dist c j) → r .other ≡ standing dist c
+  other-is a c s ne m before =
+      let least = b .other c m (λ p. ne (p ∙ sym s)) in
+      ⊎-elim (λ (e : r .other ≡ nobody). absurd (omega (arith, its (standing dist c) c m refl .somebody)))
+      (λ w.
+      ⊎-elim (λ (e : w .0 ≡ c). w .2 ∙ ap (standing dist) e)
+      (λ (n : w .0 ≡ c → ⊥). absurd (omega (arith, lower c (w .0) m (before (w .0) (w .1) (λ p. w .3 (p ∙ s)) n), w .2))) (eq-or-ne (w .0) c))
+      (b .another)
+
+  stand : (l : List ℕ) → Told star dist test l → Stand star dist r l
+  stand l (Told.nobody e none) = rw e (⊎-elim (λ x. x) (λ w. both-ways (sym (w .1) ∙ none (w .0))) (b .whose))
+  stand l (Told.someone a k e f (Runner.missing h same)) =
+      let (first, s) = first-is a f in
+      rw (e, h) (its (r .first) a (f .passes) first, s, ⊎-elim (λ x. x) (λ w. absurd (w .3 (same (w .0) (w .1) ∙ s))) (b .another))
+  stand l (Told.someone a k e f (Runner.there c h ne m before)) =
+      let (first, s) = first-is a f in
+      rw (e, h) (its (r .first) a (f .passes) first, s, its (r .other) c m (other-is a c s ne m before))
+
+-- ---- after the walk
+
+module _ (ask : Question) (w : Walk) (marks tally : List ℕ) (a : Asked ask) (e : Ended ask (verdictSteps ask) w marks tally) where
+  abbrev seen : ℕ → Bool
+  seen i = tested ask (verdictSteps ask) i
+
+  entry : (i : ℕ) → seen i ≡ true → i < n (ask .index)
+  entry i h = e .theirs i (e .marked i ∙ h)
+
+  seen-is : (i : ℕ) → (ltb i (n (ask .index)) && seen i) ≡ seen i
+  seen-is i =
+      ⊎-elim (λ (h : seen i ≡ true). rw (lt-ltb i (n (ask .index)) (entry i h))) (λ (h : seen i ≡ false). rw h (and-false (ltb i (n (ask .index))))) (either (seen i))
+
+  pub judgeable : Judgeable (ask .index .stars) (w .rivals)
+  judgeable =
+      record {
+        order = e .rivals .order .0;
+        entry = λ ne. ⊎-elim (λ x. absurd (ne x)) (λ v. let few = a .lent .few in omega (arith, v .2, entry (v .0) (v .1))) (e .rivals .another);
+      }
+
+  pub rivals-stand : Stand (starOf ask) (distanceOf ask) (w .rivals) (nearestRivals ask)
+  unfolding nearestRivals
+  rivals-stand =
+      let sh = ask .index .shape in
+      stand (starOf ask) (distanceOf ask) seen (λ i h. let few = a .lent .few in omega (arith, entry i h))
+      (λ i _. let f = facts sh (a .lent .known) .few-words in omega (arith, distance-le (q sh) (codeOf (sh .w) (ask .index .codes) i) (ask .query)))
+      (w .rivals) (e .rivals) _
+      (subst (λ (t : ℕ → Bool). Told (starOf ask) (distanceOf ask) t (nearestRivals ask)) (λ k j. seen-is j k) (told ask seen))
+
+module _ (ask : Question) (t g : ℕ) (w : Walk) (marks tally : List ℕ) (h : Walked ask (verdictSteps ask) w marks tally) where
+  abbrev given : Judged
+  given = judged.Given (verdictReport ask t g (verdictSteps ask) (nearestRivals ask))
+
+  pub found-refused : (f : Refusal) → w .met ≡ walk.Refused f → judged.Refused f ≡ verdictFound ask t g
+  unfolding verdictFound metIn
+  found-refused f e = sym (walk-refused judged.Refused given (met (ask .index) (opened ask (verdictSteps ask))) f (sym (h .met) ∙ e))
+
+  pub found-given : w .met ≡ walk.Clear → (v : Verdict) → v ≡ verdictOf (starOf ask) (distanceOf ask) t g (nearestRivals ask)
+      → judged.Given (record { verdict = v; opened = w .opened; tested = w .tested }) ≡ verdictFound ask t g
+  unfolding verdictFound metIn verdictReport
+  found-given e v is =
+      let a = h .clear e in
+      let rows = met (ask .index) (opened ask (verdictSteps ask)) in
+      let same : record { verdict = v; opened = w .opened; tested = w .tested } ≡ verdictReport ask t g (verdictSteps ask) (nearestRivals ask) =
+      λ i. record { verdict = is i; opened = a .opened i; tested = a .tested i } in
+      ap judged.Given same ∙ sym (unless-none rows judged.Refused given (walk-clear rows (sym (h .met) ∙ e)))
+
+-- ---- the whole call
+
+nothing : (b : Bool) → _≡_ {A = List ℕ} (cond b [] []) []
+nothing true = refl
+nothing false = refl
+
+zeros : (number P : ℕ) (old : List ℕ) → changes number ≡ true → lent number P [] old ≡ padded P [] ++ drop P old
+unfolding lent
+zeros number P old h = rw (h, nothing (eqb number 7)) (ap (λ (k : ℕ). padded P [] ++ drop k old) (length-padded P []))
+
+-- 0 or 7
+changing : (x : Index) (l : List (ℕ × ℕ)) (rep : VerdictReport) → changes (ofJudged (unless (met x l) judged.Refused (judged.Given rep)) .0) ≡ true
+unfolding unless
+changing x [] rep = refl
+changing x (b ∷ l) rep = go (changing x l rep) (bad x (b .0) (b .1))
+  where
+    go : changes (ofJudged (unless (met x l) judged.Refused (judged.Given rep)) .0) ≡ true → (t : Bool)
+        → changes (ofJudged (cond t (judged.Refused (BadBucket (b .0) (b .1))) (unless (met x l) judged.Refused (judged.Given rep))) .0) ≡ true
+    go ih true = refl
+    go ih false = ih
 
 module _ (ask : Question) (marks : List ℕ) (t g : ℕ) where
-  abbrev N : ℕ
-  N = nearestSteps ask 2
-
-  abbrev l : List ℕ
-  l = nearest ask 2
-
-  abbrev star : ℕ → ℕ
-  star i = getD (ask .index .stars) i 0
-
-  abbrev given : Judged
-  given = judged.Given (record { verdict = verdictOf star (distanceOf ask) t g l; opened = report ask N l .opened; tested = report ask N l .tested })
-
-  answer-is : verdictAnswer ask marks t g ≡ unless (handed ask (t ∷ g ∷ []) marks) judged.Refused (unless (walked ask N) judged.Refused given)
-  unfolding verdictAnswer report
-  answer-is = unless-append (handed ask (t ∷ g ∷ []) marks) (walked ask N) judged.Refused given
+  answer-is : verdictAnswer ask marks t g ≡ unless (handed ask (t ∷ g ∷ []) marks) judged.Refused (verdictFound ask t g)
+  unfolding verdictAnswer verdictFound
+  answer-is = unless-append (handed ask (t ∷ g ∷ []) marks) (walked ask (verdictSteps ask)) judged.Refused _
 
   pub verdict-early : (f : Refusal) → unless (oneToFive (ask .index) (ask .query) (max t g ∷ []) marks) Refused Fine ≡ Refused f
       → judges (judged.Refused f) marks ≡ verdictEnd ask marks t g
@@ -65,127 +160,17 @@ module _ (ask : Question) (marks : List ℕ) (t g : ℕ) where
       let e′ : unless (oneToFive (ask .index) (ask .query) (t ∷ g ∷ []) marks) Refused Fine ≡ Refused f = rw two-limits at e in
       sym (rw (
         answer-is,
-        one-fits judged.Refused (unless (walked ask N) judged.Refused given) (handed ask (t ∷ g ∷ []) marks) f e′,
+        one-fits judged.Refused (verdictFound ask t g) (handed ask (t ∷ g ∷ []) marks) f e′,
         early-keeps (ask .index) (ask .query) (t ∷ g ∷ []) marks f e′,
       ))
 
-  -- ---- after the search of the nearest two
-
-  abbrev words : ℕ
-  words = markWords (n (ask .index))
-
-  abbrev two : List ℕ
-  two = 0 ∷ 0 ∷ []
-
-  abbrev needed : Asked
-  needed = asked ask (take words marks) two two
-
-  module _ (fine : unless (oneToFive (ask .index) (ask .query) (max t g ∷ []) marks) Refused Fine ≡ Fine) (room : words ≤ length marks)
-      (o : Found) (m e d : List ℕ) (h : leaves o m e d ≡ nearestPast needed (K (ask .index) 2)) where
-    past : verdictAnswer ask marks t g ≡ unless (walked ask N) judged.Refused given
-    past =
-        answer-is ∙ unless-none (handed ask (t ∷ g ∷ []) marks) judged.Refused _ (none-fits (handed ask (t ∷ g ∷ []) marks) (rw two-limits at fine))
-
-    -- what the search found, and left
-    found-is : o ≡ unless (walked ask N) found.Refused (found.Listed (report ask N l))
-    unfolding nearestPast nearestFound searchEnd
-    found-is = ap (λ (x : SearchEnd). x .answer) (h ∙ same-k ask marks two two 2 needed)
-
-    end : leaves o m e d ≡ searchEnd needed o (K (ask .index) 2) l
-    unfolding nearestPast nearestFound
-    end = h ∙ same-k ask marks two two 2 needed ∙ ap (λ (r : Found). searchEnd needed r (K (ask .index) 2) l) (sym found-is)
-
-    marks-are : m ++ drop words marks ≡ lent (ofFound o .0) words [] marks
-    unfolding searchEnd
-    marks-are = ap (λ (x : SearchEnd). x .marks ++ drop words marks) end ∙ lent-front (ofFound o .0) words [] marks room
-
-    pub verdict-refused : (f : Refusal) → o ≡ found.Refused f → judges (judged.Refused f) (m ++ drop words marks) ≡ verdictEnd ask marks t g
-    unfolding verdictEnd
-    verdict-refused f e =
-        let r : verdictAnswer ask marks t g ≡ judged.Refused f =
-        past ∙ one-refuses found.Refused (found.Listed (report ask N l)) (listed-apart (report ask N l)) refused-same (walked ask N) f (sym found-is ∙ e) judged.Refused given in
-        rw r (ap (judges (judged.Refused f)) (marks-are ∙ ap (λ (x : Found). lent (ofFound x .0) words [] marks) e))
-
-    module _ (rep : Report) (listed : o ≡ found.Listed rep) where
-      -- none of the opened buckets was bad
-      none-bad : oneFits (walked ask N) ≡ false
-      none-bad = all-clear found.Refused (found.Listed (report ask N l)) (listed-apart rep) (walked ask N) (sym found-is ∙ listed)
-
-      report-is : rep ≡ report ask N l
-      report-is = let s : found.Listed rep ≡ found.Listed (report ask N l) = sym listed ∙ found-is ∙ unless-none (walked ask N) found.Refused _ none-bad in cc
-
-      pub verdict-given : (v : Verdict) → v ≡ verdictOf star (distanceOf ask) t g l
-          → judges (judged.Given (record { verdict = v; opened = rep .opened; tested = rep .tested })) (m ++ drop words marks) ≡ verdictEnd ask marks t g
-      unfolding verdictEnd
-      verdict-given v e =
-          let r : verdictAnswer ask marks t g ≡ given = past ∙ unless-none (walked ask N) judged.Refused given none-bad in
-          rw (r, e, report-is) (ap (judges given) (marks-are ∙ ap (λ (x : Found). lent (ofFound x .0) words [] marks) listed))
-
-      -- ---- the lists
-
-      entries-are : e ≡ over (padded (K (ask .index) 2) l) two
-      unfolding searchEnd lent
-      entries-are = ap (λ (x : SearchEnd). x .entries) (end ∙ ap (λ (r : Found). searchEnd needed r (K (ask .index) 2) l) listed)
-
-      distances-are : d ≡ over (padded (K (ask .index) 2) (map (distanceOf ask) l)) two
-      unfolding searchEnd lent
-      distances-are = ap (λ (x : SearchEnd). x .distances) (end ∙ ap (λ (r : Found). searchEnd needed r (K (ask .index) 2) l) listed)
-
-      many : rep .answers ≡ length l
-      unfolding report
-      many = ap (λ (r : Report). r .answers) report-is
-
-      -- the first two of the ranked entries
-      abbrev all : List ℕ
-      all = answers ask (tested ask N) (q (ask .index .shape))
-
-      l-few : length l ≤ K (ask .index) 2
-      unfolding nearest
-      l-few = rw length-take (min-le-left (K (ask .index) 2) _)
-
-      l-at : (p : ℕ) → p < length l → Here (n (ask .index)) (distanceOf ask) (tested ask N) (q (ask .index .shape) + 1) p (getD l p 0)
-      unfolding nearest
-      l-at p b =
-          let k = length-take (K (ask .index) 2) all in
-          let long = length-ranked (n (ask .index)) (distanceOf ask) (tested ask N) (q (ask .index .shape) + 1) in
-          rw (getD-take (K (ask .index) 2) all p 0 (omega arith))
-          (here (n (ask .index)) (distanceOf ask) (tested ask N) (q (ask .index .shape) + 1) p (omega arith))
-
-      entry-at : (p : ℕ) → p < length l → getD e p 0 ≡ getD l p 0
-      entry-at p b = rw entries-are (over-at (K (ask .index) 2) l two p (let f = l-few in omega arith))
-
-      distance-at : (p : ℕ) → p < length l → getD d p 0 ≡ distanceOf ask (getD l p 0)
-      distance-at p b = rw distances-are (over-at (K (ask .index) 2) (map (distanceOf ask) l) two p (let f = l-few in omega arith) ∙ getD-map (distanceOf ask) 0 0 l p b)
-
-      order : 1 < length l → getD d 0 0 ≤ getD d 1 0
-      order b =
-          let one = l-at 0 (omega arith) in
-          let other = l-at 1 b in
-          rw (distance-at 0 (omega arith), distance-at 1 b)
-          (⊎-elim
-          (λ (less : distanceOf ask (getD l 1 0) < distanceOf ask (getD l 0 0)).
-          absurd (let x = place-key (n (ask .index)) (distanceOf ask) (tested ask N) (getD l 1 0) (getD l 0 0) (other .entry) (other .kept) less in let y = one .place in let z = other .place in omega arith))
-          (λ g. g) (lt-or-le (distanceOf ask (getD l 1 0)) (distanceOf ask (getD l 0 0))))
-
-      pub first-two : FirstTwo (ask .index .stars) e d (rep .answers)
-      first-two =
-          let k = min-le-left 2 (n (ask .index)) in
-          let f = l-few in
-          let a = many in
-          record {
-            few = omega arith;
-            places = ap length entries-are ∙ length-over (padded (K (ask .index) 2) l) two (rw length-padded k);
-            distant = ap length distances-are ∙ length-over (padded (K (ask .index) 2) (map (distanceOf ask) l)) two (rw length-padded k);
-            entry = λ p b. rw (entry-at p (omega arith)) (l-at p (omega arith) .entry);
-            order = λ b. order (omega arith);
-          }
-
-      pub same-distances : (p : ℕ) → p < rep .answers → getD d p 0 ≡ distanceOf ask (getD e p 0)
-      same-distances p b = let a = many in rw (entry-at p (omega arith)) (distance-at p (omega arith))
-
-      pub same-entries : take (rep .answers) e ≡ l
-      same-entries =
-          let a = many in
-          let f = first-two in
-          let long : length (take (rep .answers) e) ≡ rep .answers = length-take-le (rep .answers) e (omega arith) in
-          ext-getD 0 (take (rep .answers) e) l (long ∙ a) (λ p b. getD-take (rep .answers) e p 0 (omega arith) ∙ entry-at p (omega arith))
+  pub verdict-whole : unless (oneToFive (ask .index) (ask .query) (max t g ∷ []) marks) Refused Fine ≡ Fine → (r : Judged) (m : List ℕ) → r ≡ verdictFound ask t g
+      → m ≡ padded (markWords (n (ask .index))) [] → judges r (m ++ drop (markWords (n (ask .index))) marks) ≡ verdictEnd ask marks t g
+  unfolding verdictEnd verdictFound
+  verdict-whole fine r m e z =
+      let words = markWords (n (ask .index)) in
+      let past : verdictAnswer ask marks t g ≡ verdictFound ask t g =
+      answer-is ∙ unless-none (handed ask (t ∷ g ∷ []) marks) judged.Refused _ (none-fits (handed ask (t ∷ g ∷ []) marks) (rw two-limits at fine)) in
+      let kept : lent (ofJudged (verdictFound ask t g) .0) words [] marks ≡ padded words [] ++ drop words marks =
+      zeros _ words marks (changing (ask .index) (opened ask (verdictSteps ask)) _) in
+      rw past (λ i. judges (e i) ((ap (λ (l : List ℕ). l ++ drop words marks) z ∙ sym kept) i))

@@ -1,18 +1,17 @@
-// The searches: the k nearest, all within a radius, and the verdict on the nearest two.
+// The searches: the k nearest, all within a radius, and the verdict on the nearest and its runner-up.
 ghost use mathlib.Core.Path.{_≡_};
 ghost use mathlib.Core.List.{[], _∷_};
-ghost use Prim.Native.Nat.{ℕ, min, max, _≤_, _<_};
-ghost use lib.ListN.{length, getD, take};
+ghost use Prim.Native.Nat.{ℕ, min, max, _≤_};
+ghost use lib.ListN.{length, getD};
 ghost use Rattle.theory.specs.Lists.{tab, over, padded};
 ghost use Rattle.scope.specs.Shape.{q};
 ghost use Rattle.scope.specs.Tables.{index};
 ghost use Rattle.scope.specs.Walk.{question};
-ghost use Rattle.scope.specs.Verdict.{verdictOf};
 ghost use Rattle.scope.specs.Refusals.{unless, oneToFive, markWords};
 ghost use Rattle.scope.specs.Calls.{asked, leaves, nearestEnd, withinEnd, judges, verdictEnd};
 ghost use Rattle.walk.specs.Steps.{asks, Asked};
-ghost use Rattle.search.specs.Judge.{FirstTwo};
-ghost use Rattle.search.specs.Past.{nearestPast, withinPast};
+ghost use Rattle.search.specs.Judge.{Judgeable, Says};
+ghost use Rattle.search.specs.Past.{nearestPast, withinPast, verdictFound};
 use scope::Found;
 use scope::Judged;
 use scope::Refusal;
@@ -21,7 +20,10 @@ use scope::Shape;
 use scope::Verdict;
 use scope::VerdictReport;
 use shapes::Early;
+use walk::ENTRIES;
 use walk::Met;
+use walk::NOBODY;
+use walk::Rivals;
 
 fn smaller(a: usize, b: usize) -> usize
     ensures { λ r. ⌜ r ≡ min a b ⌝ }
@@ -261,25 +263,26 @@ pub fn within(
     )
 }
 
-// The verdict on the first answers, two at most, with reach t and gap g.
-fn judge(stars: &[u32], answers: u32, entries: &[u32], distances: &[u32], t: u32, g: u32) -> Verdict
-    requires { ⌜ FirstTwo (now stars) (now entries) (now distances) answers ⌝ }
-    ensures { λ r. ⌜ ((dist : ℕ → ℕ) → ((p : ℕ) → p < answers → getD (now (distances .entry)) p 0 ≡ dist (getD (now (entries .entry)) p 0)) → r ≡ verdictOf (λ (i : ℕ). getD (now (stars .entry)) i 0) dist t g (take answers (now (entries .entry)))) ⌝ }
+// The verdict on the nearest tested entry and its runner-up, with reach t and gap g. Only an unsure verdict reads the runner-up's star.
+fn judge(stars: &[u32], rivals: Rivals, t: u32, g: u32) -> Verdict
+    requires { ⌜ Judgeable (now stars) rivals ⌝ }
+    ensures { λ v. ⌜ Says (λ (i : ℕ). getD (now (stars .entry)) i 0) t g rivals v ⌝ }
 {
-    if answers == 0 {
+    if rivals.first == NOBODY {
         return Verdict::None;
     }
-    let distance = distances[0];
+    let distance = rivals.first / ENTRIES;
     if t < distance {
         return Verdict::None;
     }
-    let star = stars[entries[0] as usize];
-    if answers == 1 {
+    let star = rivals.star;
+    if rivals.other == NOBODY {
         return Verdict::Match { star, distance };
     }
-    let farther = distances[1];
+    let farther = rivals.other / ENTRIES;
     if farther - distance < g {
-        let other = stars[entries[1] as usize];
+        let entry = (rivals.other % ENTRIES) as usize;
+        let other = stars[entry];
         return Verdict::Unsure {
             star,
             other,
@@ -290,7 +293,44 @@ fn judge(stars: &[u32], answers: u32, entries: &[u32], distances: &[u32], t: u32
     Verdict::Match { star, distance }
 }
 
-// The verdict on the nearest two, with reach t and gap g.
+// Gives the verdict, where none of refusals 1 to 5 fits. Marks and tally as above.
+fn give_verdict(
+    shape: Shape,
+    stars: &[u32],
+    codes: &[u64],
+    starts: &[u32],
+    ids: &[u32],
+    query: &[u64],
+    t: u32,
+    g: u32,
+    marks: &mut [u64],
+    tally: &mut [u32],
+) -> Judged
+    requires { ⌜ Asked (asks shape (now stars) (now codes) (now starts) (now ids) (now query)) ⌝ }
+    requires { ⌜ (length (now marks) ≡ markWords (length (now stars))) × (now tally ≡ tab (λ _. 0) 257) ⌝ }
+    ensures { λ r. ⌜ r ≡ verdictFound (asks shape (now (stars .entry)) (now (codes .entry)) (now (starts .entry)) (now (ids .entry)) (now (query .entry))) t g ⌝ }
+    ensures { λ _. ⌜ now (marks .exit) ≡ padded (length (now (marks .entry))) [] ⌝ }
+{
+    let words = marks.len();
+    codes::clear(marks, words);
+    let w = walk::verdict(shape, stars, codes, starts, ids, query, marks, tally);
+    codes::clear(marks, words);
+    let met = w.met;
+    if let Met::Refused(refusal) = met {
+        return Judged::Refused(refusal);
+    }
+    let rivals = w.rivals;
+    let verdict = judge(stars, rivals, t, g);
+    let opened = w.opened;
+    let tested = w.tested;
+    Judged::Given(VerdictReport {
+        verdict,
+        opened,
+        tested,
+    })
+}
+
+// The verdict on the nearest entry and its runner-up, the nearest of another star, with reach t and gap g.
 pub fn verdict(
     shape: Shape,
     stars: &[u32],
@@ -308,36 +348,18 @@ pub fn verdict(
     if let Early::Refused(refusal) = early {
         return Judged::Refused(refusal);
     }
-    let n = stars.len();
-    let places = smaller(2, n);
-    let words = (n + 63) / 64;
+    let words = (stars.len() + 63) / 64;
     let mut tally = [0u32; 257];
-    let mut entries = [0u32; 2];
-    let mut distances = [0u32; 2];
-    let found = list_nearest(
+    give_verdict(
         shape,
         stars,
         codes,
         starts,
         ids,
         query,
-        places,
+        t,
+        g,
         &mut marks[..words],
         &mut tally,
-        &mut entries,
-        &mut distances,
-    );
-    match found {
-        Found::Refused(refusal) => Judged::Refused(refusal),
-        Found::Listed(report) => {
-            let verdict = judge(stars, report.answers, &entries, &distances, t, g);
-            let opened = report.opened;
-            let tested = report.tested;
-            Judged::Given(VerdictReport {
-                verdict,
-                opened,
-                tested,
-            })
-        }
-    }
+    )
 }

@@ -507,8 +507,8 @@ fn verdicts() {
     judge_a(0, 0);
     judge_a(0, 64);
     judge_a(1, 0);
-    judge_a(1, 1);
-    judge_a(1, 2);
+    judge_a(1, 5);
+    judge_a(1, 6);
     judge_a(4, 3);
     judge_a(64, 64);
     judge_a(65, 0);
@@ -517,6 +517,7 @@ fn verdicts() {
     judge_alike(b"one entry", 1, 64, &[7], &[2]);
     judge_alike(b"two alike", 1, 0, &[7, 8], &[2, 2]);
     judge_alike(b"two alike", 1, 1, &[7, 8], &[2, 2]);
+    judge_alike(b"one star", 1, 64, &[7, 7], &[2, 2]);
 }
 
 fn judge_a(t: u32, g: u32) {
@@ -534,8 +535,8 @@ fn judge_alike(name: &[u8], t: u32, g: u32, stars: &[u32], codes: &[u64]) {
 }
 
 fn verdicts_over_unsound_tables() {
-    judge_with_id(b"bad in step 3", 3, 0, 9);
-    judge_with_id(b"bad in step 2", 2, 0, 9);
+    judge_with_id(b"bad in step 7", 7, 0, 9);
+    judge_with_id(b"bad in step 6", 6, 0, 9);
     judge_with_one_listed(1);
     judge_with_one_listed(2);
     judge(

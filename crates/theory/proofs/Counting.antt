@@ -12,9 +12,9 @@ use lib.ListN.{length, getD, length-append, List·getD-append}
 use lib.Seq.{getD-at}
 use borrow.Author.Tests.{eq-eqb, ne-eqb, lt-ltb, le-ltb}
 use Rattle.theory.specs.Lists.{sum, cat, upto, count, any, has}
-use Rattle.theory.proofs.Tests.{lt-or-le, eq-or-ne, ltb-suc, oneIf, oneIf-le}
+use Rattle.theory.proofs.Tests.{lt-or-le, eq-or-ne, both-ways, ltb-suc, oneIf, oneIf-le}
 use Rattle.theory.proofs.Sums.{sum-cong}
-use Rattle.theory.proofs.Lists.{cat-suc, length-cat, cat-cong, has-append, has-one, has-none}
+use Rattle.theory.proofs.Lists.{cat-suc, length-cat, cat-cong, any-one, any-none, any-cat-yes, any-cat-at, has-append, has-one, has-none}
 
 module _ {A : Type 0} where
   -- x where the test holds, or nothing
@@ -26,6 +26,10 @@ module _ {A : Type 0} where
   length-only false x = refl
 
 module _ (p : ℕ → Bool) where
+  pub upto-zero : upto p 0 ≡ []
+  unfolding cat
+  upto-zero = refl
+
   pub upto-suc : (n : ℕ) → upto p (suc n) ≡ upto p n ++ only (p n) n
   upto-suc n = cat-suc (λ i. only (p i) i) n
 
@@ -33,8 +37,7 @@ module _ (p : ℕ → Bool) where
   count-sum n = length-cat (λ i. only (p i) i) n ∙ sum-cong _ _ n (λ i _. length-only (p i) i)
 
   pub count-zero : count p 0 ≡ 0
-  unfolding cat
-  count-zero = refl
+  count-zero = ap length upto-zero
 
   pub count-suc : (n : ℕ) → count p (suc n) ≡ count p n + oneIf (p n)
   count-suc n = ap length (upto-suc n) ∙ length-append (upto p n) (only (p n) n) ∙ ap (λ (k : ℕ). count p n + k) (length-only (p n) n)
@@ -84,8 +87,11 @@ upto-gap p a (suc b) h f =
     ⊎-elim (λ (l : a < suc b). upto-suc p b ∙ rw (f b (omega arith) (omega arith), append-nil) (upto-gap p a b (omega arith) (λ i x y. f i x (omega arith))))
     (λ (g : suc b ≤ a). let e : suc b ≡ a = omega arith in ap (upto p) e) (lt-or-le a (suc b))
 
+pub upto-never : (p : ℕ → Bool) (n : ℕ) → ((i : ℕ) → i < n → p i ≡ false) → upto p n ≡ []
+upto-never p n h = upto-gap p 0 n (omega arith) (λ i _ l. h i l) ∙ upto-zero p
+
 pub count-never : (p : ℕ → Bool) (n : ℕ) → ((i : ℕ) → i < n → p i ≡ false) → count p n ≡ 0
-count-never p n h = ap length (upto-gap p 0 n (omega arith) (λ i _ l. h i l)) ∙ count-zero p
+count-never p n h = ap length (upto-never p n h)
 
 -- ---- which number stands at a place
 
@@ -133,3 +139,16 @@ has-upto p x (suc n) =
     other : (b : Bool) → (x ≡ n → ⊥) → has x (only b n) ≡ false
     other true ne = has-one x n ∙ ne-eqb x n ne
     other false ne = has-none x
+
+-- of the numbers below n that pass p, some passes t
+pub any-upto : (t p : ℕ → Bool) (n i : ℕ) → i < n → p i ≡ true → t i ≡ true → any t (upto p n) ≡ true
+any-upto t p n i l e h = any-cat-yes t (λ i. only (p i) i) i n l (rw e (any-one t i ∙ h))
+
+pub any-upto-at : (t p : ℕ → Bool) (n : ℕ) → any t (upto p n) ≡ true → (i : ℕ) × (i < n) × (p i ≡ true) × (t i ≡ true)
+any-upto-at t p n h =
+    let (i, l, e) = any-cat-at t (λ i. only (p i) i) n h in
+    let both = passes (p i) i e in (i, l, both .0, both .1)
+  where
+    passes : (b : Bool) (x : ℕ) → any t (only b x) ≡ true → (b ≡ true) × (t x ≡ true)
+    passes true x h = (refl, sym (any-one t x) ∙ h)
+    passes false x h = both-ways (sym h ∙ any-none t)

@@ -106,6 +106,10 @@ pub oneIf-le : (b : Bool) → oneIf b ≤ 1
 oneIf-le true = omega arith
 oneIf-le false = omega arith
 
+pub oneIf-positive : (b : Bool) → ltb 0 (oneIf b) ≡ b
+oneIf-positive true = lt-ltb 0 1 (omega arith)
+oneIf-positive false = le-ltb 0 0 (omega arith)
+
 -- below k + 1: below k, or k
 pub oneIf-suc : (a k : ℕ) → oneIf (ltb a (suc k)) ≡ oneIf (ltb a k) + oneIf (eqb a k)
 oneIf-suc a k =

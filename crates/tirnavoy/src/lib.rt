@@ -269,7 +269,7 @@ fn judged(
     }
 }
 
-// Which field is it? The verdict on the nearest two, with reach t and gap g.
+// Which field is it? The verdict on the nearest entry and its runner-up, with reach t and gap g.
 #[no_mangle]
 pub extern "C" fn tirnavoy_verdict(
     w: u32,

@@ -9,9 +9,9 @@ use Rattle.scope.specs.Shape.{listed, m, firstBit, len, startsBefore}
 use Rattle.scope.specs.Tables.{substringOf, builtStarts, builtIds, start, idAt, badId, bad}
 use Rattle.scope.specs.Walk.{opens, opened, tested, near}
 use Rattle.scope.specs.Search.{nearestSteps, nearest, withinSteps, within}
-use Rattle.scope.specs.Verdict.{verdictOf}
+use Rattle.scope.specs.Verdict.{twoStars, firstOther, rivals, verdictSteps, nearestRivals, verdictOf}
 use Rattle.scope.specs.Refusals.{unless, lent}
-use Rattle.scope.specs.Calls.{report, buildAnswer, buildEnd, nearestAnswer, nearestEnd, withinAnswer, withinEnd, searchEnd, verdictAnswer, verdictEnd}
+use Rattle.scope.specs.Calls.{report, buildAnswer, buildEnd, nearestAnswer, nearestEnd, withinAnswer, withinEnd, searchEnd, verdictReport, verdictAnswer, verdictEnd}
 use Rattle.reading.specs.Bytes.{numberAt}
 use Rattle.reading.specs.Records.{wanted, restOf, meaningOf, recordOf}
 use Rattle.lines.specs.Text.{decimal, decimalIn, hex}
@@ -78,16 +78,16 @@ first = 49 ∷ 32 ∷ 49 ∷ 48 ∷ 32 ∷ 49 ∷ 10 ∷ []
 abbrev second : List ℕ
 second = 48 ∷ 32 ∷ 49 ∷ 48 ∷ 32 ∷ 50 ∷ 10 ∷ []
 
--- 8 unsure 10 10 1 2
+-- 8 match 10 1
 abbrev eight : List ℕ
-eight = 56 ∷ 32 ∷ 117 ∷ 110 ∷ 115 ∷ 117 ∷ 114 ∷ 101 ∷ 32 ∷ 49 ∷ 48 ∷ 32 ∷ 49 ∷ 48 ∷ 32 ∷ 49 ∷ 32 ∷ 50 ∷ 10 ∷ []
+eight = 56 ∷ 32 ∷ 109 ∷ 97 ∷ 116 ∷ 99 ∷ 104 ∷ 32 ∷ 49 ∷ 48 ∷ 32 ∷ 49 ∷ 10 ∷ []
 
 -- 9 within 1 2 3
 abbrev nine : List ℕ
 nine = 57 ∷ 32 ∷ 119 ∷ 105 ∷ 116 ∷ 104 ∷ 105 ∷ 110 ∷ 32 ∷ 49 ∷ 32 ∷ 50 ∷ 32 ∷ 51 ∷ 10 ∷ []
 
 whole : transcript input ≡ stars5 ++ seven ++ first ++ second ++ eight ++ nine ++ first
-unfolding transcript printed built reply recordOf meaningOf restOf wanted numberAt decimal decimalIn hex answerLines buildEnd buildAnswer builtStarts builtIds nearestEnd withinEnd searchEnd verdictEnd lent nearestAnswer withinAnswer verdictAnswer report unless nearestSteps nearest withinSteps within ranked verdictOf firstFrom near tested opened opens bad badId start idAt substringOf listed startsBefore m firstBit len substring distance codeOf bit sum cat any ones
+unfolding transcript printed built reply recordOf meaningOf restOf wanted numberAt decimal decimalIn hex answerLines buildEnd buildAnswer builtStarts builtIds nearestEnd withinEnd searchEnd verdictEnd lent nearestAnswer withinAnswer verdictAnswer verdictReport report unless nearestSteps nearest withinSteps within ranked twoStars firstOther rivals verdictSteps nearestRivals verdictOf firstFrom near tested opened opens bad badId start idAt substringOf listed startsBefore m firstBit len substring distance codeOf bit sum cat any ones
 whole = refl
 
 -- ---- the end of the input

@@ -16,7 +16,7 @@ use Rattle.theory.proofs.Counting.{upto-suc, count-le}
 use Rattle.scope.specs.declared.Refusal.{Refusal}
 use Rattle.scope.specs.declared.Refusal.the-variants.{BadBucket}
 use Rattle.scope.specs.Tables.{Index, n, bucket, bad}
-use Rattle.scope.specs.Walk.{Question, distanceOf}
+use Rattle.scope.specs.Walk.{Question, distanceOf, starOf}
 use Rattle.scope.specs.Refusals.{Rows, met, unless, markWords}
 use Rattle.scope.proofs.Rows.{oneFits, unless-append, unless-none, met-any, all-clear, one-refuses}
 use Rattle.codes.specs.Marks.{isMarked}
@@ -72,7 +72,7 @@ module _ (x : Index) where
 -- ---- buckets, one after the other
 
 module _ (ask : Question) (w : Walk) (marks : List ℕ) where
-  pub opening-none : (tally : List ℕ) → w .met ≡ Clear → Counted (distanceOf ask) (markWords (n (ask .index))) w marks tally → Opening ask [] w w marks marks tally
+  pub opening-none : (tally : List ℕ) → w .met ≡ Clear → Counted (starOf ask) (distanceOf ask) (markWords (n (ask .index))) w marks tally → Opening ask [] w w marks marks tally
   opening-none tally c h =
       record {
         met = c ∙ sym (met-none (ask .index));
@@ -85,7 +85,7 @@ module _ (ask : Question) (w : Walk) (marks : List ℕ) where
   opening-refused z v r marks′ tally′ b e = record { met = e ∙ sym (rw (met-one, b)); clear = λ c. not-both (sym e ∙ c) }
 
   pub opening-one : (z v : ℕ) (u r : Walk) (marks′ tally′ : List ℕ) → bad (ask .index) z v ≡ false → u .at ≡ w .at → u .opened .0 ≡ w .opened .0 + 1 → u .met ≡ Clear
-      → Tests (distanceOf ask) (markWords (n (ask .index))) (λ i. has i (bucket (ask .index) z v)) u r marks marks′ tally′ → Opening ask ((z, v) ∷ []) w r marks marks′ tally′
+      → Tests (starOf ask) (distanceOf ask) (markWords (n (ask .index))) (λ i. has i (bucket (ask .index) z v)) u r marks marks′ tally′ → Opening ask ((z, v) ∷ []) w r marks marks′ tally′
   opening-one z v u r marks′ tally′ b at opened c h =
       record {
         met = h .met ∙ c ∙ sym (rw (met-one, b));

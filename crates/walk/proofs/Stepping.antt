@@ -1,8 +1,8 @@
 -- Steps, one after the other, and when they stop. Assumes nothing.
-use mathlib.Core.Path.{_≡_, sym, ap, subst, _∙_}
+use mathlib.Core.Path.{_≡_, refl, sym, ap, subst, _∙_}
 use mathlib.Core.Logic.{⊎-elim}
 use mathlib.Core.Bool.{Bool, true, false, _&&_, and-false}
-use mathlib.Core.List.{List}
+use mathlib.Core.List.{List, []}
 use Prim.Native.Nat.{ℕ, suc, min, _+_, _*_, _≤_, _<_}
 use native.Mathlib.Nat.{eq-or-lt-of-le, min-eq-left}
 use native.Mathlib.Decide.{le-ind}
@@ -10,23 +10,30 @@ use native.Mathlib.Numerals.{add-one}
 use native.Mathlib.Omega.{arith}
 use lib.Dec.{eqb, ltb, leb}
 use lib.ListN.{length, getD, length-append}
-use borrow.Author.Tests.{le-leb, lt-leb, ne-eqb}
-use Rattle.theory.specs.Lists.{firstFrom, count}
+use borrow.Author.Tests.{le-ltb, lt-leb, ne-eqb}
+use Rattle.theory.specs.Lists.{firstFrom, count, any}
 use Rattle.theory.proofs.Tests.{either, eq-or-ne}
 use Rattle.theory.proofs.Lists.{tab-cong, first-none, first-is, first-past, first-shift}
-use Rattle.theory.proofs.Counting.{upto-gap, count-never, count-cong, count-le}
-use Rattle.theory.proofs.Placing.{lower-suc, lower-zero}
+use Rattle.theory.proofs.Counting.{upto-gap, upto-never, count-never, count-cong}
+use Rattle.theory.proofs.Placing.{lower-suc}
 use Rattle.scope.specs.declared.Refusal.{Refusal}
 use Rattle.scope.specs.Shape.{q}
 use Rattle.scope.specs.Tables.{n}
-use Rattle.scope.specs.Walk.{Question, distanceOf, opens, opened, tested, near}
-use Rattle.scope.specs.Search.{nearestSteps}
+use Rattle.scope.specs.Walk.{Question, distanceOf, starOf, opens, opened, tested}
+use Rattle.scope.specs.Search.{stepsUntil, nearestSteps}
+use Rattle.scope.specs.Verdict.{twoStars, verdictSteps}
 use Rattle.scope.specs.Refusals.{markWords}
-use Rattle.scope.proofs.Walking.{opened-none, opened-suc, tested-none, tested-suc, near-below, lists-entry}
+use Rattle.scope.proofs.Walking as walking
+use Rattle.scope.proofs.Walking.{opened-none, opened-suc, tested-none, tested-suc, lists-entry}
+use Rattle.scope.proofs.Steps.{verdict-some}
 use Rattle.codes.specs.Marks.{isMarked}
+use Rattle.walk.specs.declared.Aim.{Aim}
+use Rattle.walk.specs.declared.Aim.the-variants as aim
 use Rattle.walk.specs.declared.Met.the-variants.{Clear, Refused}
 use Rattle.walk.specs.declared.Walk.{Walk}
-use Rattle.walk.specs.Steps.{metIn, Counted, Opening, Start, Going, Stepped, Fresh, nearAfter, stepsTo, Ended, Walked}
+use Rattle.walk.specs.Rivals.{standing, Best}
+use Rattle.walk.specs.Steps.{metIn, Counted, Opening, Start, Going, Stepped, Fresh, nearer, nearAfter, enoughAfter, reached, stepsTo, Ended, Walked}
+use Rattle.walk.proofs.Joining.{best-none, best-cong, two-near}
 use Rattle.walk.proofs.Testing.{tally-at}
 use Rattle.walk.proofs.Opening.{not-both, met-none, met-past, met-stays, none-bad}
 
@@ -38,16 +45,18 @@ count-none marks none m t =
 -- ---- one step
 
 -- one radius more: the tested entries at distance R are near too
-pub counted-reach : (distance : ℕ → ℕ) (words : ℕ) (w r : Walk) (marks tally : List ℕ) → w .at ≤ 256 → r .at ≡ w .at + 1
-    → r .near ≡ w .near + getD tally (w .at) 0 → r .tested ≡ w .tested → Counted distance words w marks tally → Counted distance words r marks tally
-counted-reach distance words w r marks tally h at near tested c =
+pub counted-reach : (star distance : ℕ → ℕ) (words : ℕ) (w r : Walk) (marks tally : List ℕ) → w .at ≤ 256 → r .at ≡ w .at + 1
+    → r .near ≡ w .near + getD tally (w .at) 0 → r .tested ≡ w .tested → r .rivals ≡ w .rivals → Counted star distance words w marks tally
+    → Counted star distance words r marks tally
+counted-reach star distance words w r marks tally h at near tested rivals c =
     record {
       long = c .long;
       tally-is = c .tally-is;
       near-is =
-          near ∙ rw (c .near-is, tally-at distance words w marks tally c (w .at) (omega arith), at, add-one (w .at))
+          near ∙ rw (c .near-is, tally-at star distance words w marks tally c (w .at) (omega arith), at, add-one (w .at))
           (sym (lower-suc (64 * words) distance (isMarked marks) (64 * words) (w .at)));
       tested-is = rw tested (c .tested-is);
+      rivals-are = rw rivals (c .rivals-are);
     }
 
 module _ (ask : Question) where
@@ -86,6 +95,7 @@ module _ (ask : Question) where
           tally-is = f .zeros ∙ tab-cong _ _ 257 (λ d _. sym (none (λ i. eqb (distanceOf ask i) d)));
           near-is = s .near ∙ sym (none (λ i. ltb (distanceOf ask i) (w .at)));
           tested-is = s .tested ∙ sym (none (λ _. true));
+          rivals-are = best-none _ _ (isMarked marks) (f .none) (w .rivals) (s .rivals .0) (s .rivals .1);
         };
       }
 
@@ -107,7 +117,10 @@ module _ (ask : Question) where
     tested-of : (t : ℕ → Bool) → count (λ i. t i && isMarked marks i) (n (ask .index)) ≡ count (λ i. t i && tested ask (w .at) i) (n (ask .index))
     tested-of t = count-cong _ _ (n (ask .index)) (λ i _. ap (λ (b : Bool). t i && b) (h .marked i))
 
-    pub near-is : w .near ≡ nearAfter ask (w .at)
+    best : Best (starOf ask) (standing (distanceOf ask)) (tested ask (w .at)) (w .rivals)
+    best = best-cong _ _ (isMarked marks) (tested ask (w .at)) (h .marked) (w .rivals) (h .counted .rivals-are)
+
+    near-is : w .near ≡ nearAfter ask (w .at)
     near-is = h .counted .near-is ∙ entries (λ i. ltb (distanceOf ask i) (w .at)) ∙ tested-of (λ i. ltb (distanceOf ask i) (w .at))
 
     ended : Ended ask (w .at) w marks tally
@@ -118,59 +131,66 @@ module _ (ask : Question) where
           theirs = theirs;
           tally-is = h .counted .tally-is ∙ tab-cong _ _ 257 (λ d _. entries (λ i. eqb (distanceOf ask i) d));
           near = near-is;
+          rivals = best;
           opened = λ i. record { 0 = h .opened i };
           tested = λ i. record { 0 = (h .counted .tested-is ∙ entries (λ _. true) ∙ tested-of (λ _. true)) i };
         }
 
+    -- whether its steps are enough is told by its counts and rivals
+    pub reached-is : (aim : Aim) → n (ask .index) ≤ 65536 → w .at ≤ 256 → enoughAfter ask aim (w .at) ≡ reached aim w
+    unfolding reached
+    reached-is aim.Never few early = refl
+    reached-is (aim.Count k) few early = ap (leb k) (sym near-is)
+    reached-is aim.TwoStars few early =
+        sym (two-near (starOf ask) (distanceOf ask) (tested ask (w .at)) (n (ask .index)) (w .at) few early (λ i e. theirs i (h .marked i ∙ e)) (w .rivals) best)
+
     pub so-far : Walked ask (w .at) w marks tally
     so-far = record { met = h .met ∙ sym (h .clear); clear = λ _. ended }
 
+  -- so many steps, said in other words
+  pub walked-as : (M N : ℕ) → M ≡ N → (w : Walk) (marks tally : List ℕ) → Walked ask M w marks tally → Walked ask N w marks tally
+  walked-as M N e w marks tally h = subst (λ (N : ℕ). Walked ask N w marks tally) e h
+
   pub walked-none : (w : Walk) (marks tally : List ℕ) → Start w → Fresh (markWords (n (ask .index))) marks tally → Walked ask 0 w marks tally
-  walked-none w marks tally s f = subst (λ (N : ℕ). Walked ask N w marks tally) (s .at) (so-far w marks tally (going-none w marks tally s f))
+  walked-none w marks tally s f = walked-as (w .at) 0 (s .at) w marks tally (so-far w marks tally (going-none w marks tally s f))
 
--- ---- the loop: the walk so far, and that no fewer steps were enough
+-- ---- a loop of steps that stops by a test p of their number: the walk so far, and that no fewer steps passed
 
-pub record Far (ask : Question) (k top : ℕ) (w : Walk) (marks tally : List ℕ) : Type 0 where
+pub record Far (ask : Question) (p : ℕ → Bool) (top : ℕ) (w : Walk) (marks tally : List ℕ) : Type 0 where
   pub upto : w .at ≤ top + 1
   pub going : Going ask w marks tally
-  pub before : (N : ℕ) → N < w .at → leb k (nearAfter ask N) ≡ false
+  pub before : (N : ℕ) → N < w .at → p N ≡ false
 
-module _ (ask : Question) (k top : ℕ) (w : Walk) (marks tally : List ℕ) where
-  pub far-none : Start w → Fresh (markWords (n (ask .index))) marks tally → Far ask k top w marks tally
+module _ (ask : Question) (p : ℕ → Bool) (top : ℕ) (w : Walk) (marks tally : List ℕ) where
+  pub far-none : Start w → Fresh (markWords (n (ask .index))) marks tally → Far ask p top w marks tally
   far-none s f = let e = s .at in record { upto = omega arith; going = going-none ask w marks tally s f; before = λ N l. absurd (omega arith) }
 
-  module _ (h : Far ask k top w marks tally) where
+  module _ (h : Far ask p top w marks tally) where
     -- the walk so far is all of it
-    all : w .at ≡ stepsTo ask k top → Walked ask (stepsTo ask k top) w marks tally
-    all e = subst (λ (N : ℕ). Walked ask N w marks tally) e (so-far ask w marks tally (h .going))
+    all : w .at ≡ stepsTo p top → Walked ask (stepsTo p top) w marks tally
+    all e = walked-as ask (w .at) (stepsTo p top) e w marks tally (so-far ask w marks tally (h .going))
 
-    pub walked-all : top < w .at → Walked ask (stepsTo ask k top) w marks tally
-    unfolding stepsTo
+    pub walked-all : top < w .at → Walked ask (stepsTo p top) w marks tally
     walked-all l =
         let e : w .at ≡ 0 + (top + 1) = let u = h .upto in omega arith in
-        all (e ∙ sym (first-none (λ N. leb k (nearAfter ask N)) (top + 1) 0 (λ N _ b. h .before N (omega arith))))
+        all (e ∙ sym (first-none p (top + 1) 0 (λ N _ b. h .before N (omega arith))))
 
-    pub walked-near : w .at ≤ top → k ≤ w .near → Walked ask (stepsTo ask k top) w marks tally
-    unfolding stepsTo
-    walked-near l e =
-        all (sym (first-is (λ N. leb k (nearAfter ask N)) (top + 1) 0 (w .at) (omega arith) (omega arith) (λ N _ b. h .before N b)
-        (le-leb k (nearAfter ask (w .at)) (rw (near-is ask w marks tally (h .going)) at e))))
+    pub walked-enough : w .at ≤ top → p (w .at) ≡ true → Walked ask (stepsTo p top) w marks tally
+    walked-enough l e = all (sym (first-is p (top + 1) 0 (w .at) (omega arith) (omega arith) (λ N _ b. h .before N b) e))
 
-    module _ (l : w .at ≤ top) (few : w .near < k) (r : Walk) (marks′ tally′ : List ℕ) (s : Stepped ask w r marks′ tally′) where
-      before-suc : (N : ℕ) → N < w .at + 1 → leb k (nearAfter ask N) ≡ false
+    module _ (l : w .at ≤ top) (not-yet : p (w .at) ≡ false) (r : Walk) (marks′ tally′ : List ℕ) (s : Stepped ask w r marks′ tally′) where
+      before-suc : (N : ℕ) → N < w .at + 1 → p N ≡ false
       before-suc N b =
-          ⊎-elim (λ (e : N ≡ w .at). rw e (lt-leb k (nearAfter ask (w .at)) (rw (near-is ask w marks tally (h .going)) at few))) (λ (e : N < w .at). h .before N e)
-          (eq-or-lt-of-le (let g : N ≤ w .at = omega arith in g))
+          ⊎-elim (λ (e : N ≡ w .at). rw e not-yet) (λ (e : N < w .at). h .before N e) (eq-or-lt-of-le (let g : N ≤ w .at = omega arith in g))
 
-      pub far-more : r .met ≡ Clear → Far ask k top r marks′ tally′
+      pub far-more : r .met ≡ Clear → Far ask p top r marks′ tally′
       far-more c = let e = s .at c in record { upto = omega arith; going = s .going c; before = λ N b. before-suc N (omega arith) }
 
       -- a bad bucket stops the walk before its time, and is the first bad of all its steps
-      pub walked-bad : (f : Refusal) → r .met ≡ Refused f → Walked ask (stepsTo ask k top) r marks′ tally′
-      unfolding stepsTo
+      pub walked-bad : (f : Refusal) → r .met ≡ Refused f → Walked ask (stepsTo p top) r marks′ tally′
       walked-bad f e =
           record {
-            met = e ∙ sym (opened-bad (w .at + 1) _ (first-past (λ N. leb k (nearAfter ask N)) (top + 1) 0 (w .at + 1) (omega arith) (λ N _ b. before-suc N b)) (sym (s .met) ∙ e));
+            met = e ∙ sym (opened-bad (w .at + 1) _ (first-past p (top + 1) 0 (w .at + 1) (omega arith) (λ N _ b. before-suc N b)) (sym (s .met) ∙ e));
             clear = λ c. not-both (sym e ∙ c);
           }
         where
@@ -181,22 +201,29 @@ module _ (ask : Question) (k top : ℕ) (w : Walk) (marks tally : List ℕ) wher
 -- ---- where the searches stop
 
 module _ (ask : Question) where
-  -- K tested entries are near enough after step R: before any step, only none is
-  pub nearest-steps : (k : ℕ) → k ≤ n (ask .index) → stepsTo ask k (q (ask .index .shape)) ≡ nearestSteps ask k
-  unfolding stepsTo nearestSteps firstFrom
+  -- nothing is nearer than 0
+  nearer-none : nearer ask 0 ≡ []
+  nearer-none = upto-never (λ i. ltb (distanceOf ask i) 0 && tested ask 0 i) (n (ask .index)) (λ i _. rw (le-ltb (distanceOf ask i) 0 (omega arith)))
+
+  -- what is enough after step R is enough after R + 1 steps, unless nothing is
+  pub steps-until : (enough : List ℕ → Bool) → enough [] ≡ false → stepsTo (λ N. enough (nearer ask N)) (q (ask .index .shape)) ≡ stepsUntil ask enough
+  unfolding firstFrom
+  steps-until enough none =
+      rw (add-one (q (ask .index .shape)), nearer-none, none) (first-shift _ _ (λ R. ap enough (sym (walking.near-is ask R))) (q (ask .index .shape)) 0)
+
+  -- K tested entries are near enough: before any step, only none is
+  pub nearest-steps : (k : ℕ) → k ≤ n (ask .index) → stepsTo (enoughAfter ask (aim.Count k)) (q (ask .index .shape)) ≡ nearestSteps ask k
+  unfolding nearestSteps firstFrom
   nearest-steps k h =
       let same : min k (n (ask .index)) ≡ k = min-eq-left h in
-      let none : nearAfter ask 0 ≡ 0 = lower-zero 0 (distanceOf ask) (tested ask 0) (n (ask .index)) in
-      rw (same, add-one (q (ask .index .shape)), none)
-      (⊎-elim (λ (e : k ≡ 0). rw (e))
-      (λ (ne : k ≡ 0 → ⊥).
-      rw (lt-leb k 0 (omega arith), ne-eqb k 0 ne)
-      (first-shift _ _ (λ R. ap (leb k) (sym (near-below ask R))) (q (ask .index .shape)) 0)) (eq-or-ne k 0))
+      ⊎-elim (λ (e : k ≡ 0). rw (same, add-one (q (ask .index .shape)), nearer-none, e))
+      (λ (ne : k ≡ 0 → ⊥). rw (same, ne-eqb k 0 ne) (steps-until (λ l. leb k (length l)) (lt-leb k 0 (omega arith)))) (eq-or-ne k 0)
 
-  -- more than there are entries: all steps are taken
-  pub all-steps : (k top : ℕ) → n (ask .index) < k → stepsTo ask k top ≡ top + 1
-  unfolding stepsTo
-  all-steps k top h =
-      first-none (λ N. leb k (nearAfter ask N)) (top + 1) 0
-      (λ N _ _. lt-leb k (nearAfter ask N) (omega (arith, count-le (λ i. ltb (distanceOf ask i) N && tested ask N i) (n (ask .index)))))
-      ∙ omega arith
+  -- two stars are
+  pub verdict-steps : 0 < n (ask .index) → stepsTo (enoughAfter ask aim.TwoStars) (q (ask .index .shape)) ≡ verdictSteps ask
+  unfolding twoStars any
+  verdict-steps h = steps-until (twoStars (starOf ask)) refl ∙ sym (verdict-some ask h)
+
+  -- never: all steps are taken
+  pub all-steps : (top : ℕ) → stepsTo (enoughAfter ask aim.Never) top ≡ top + 1
+  all-steps top = first-none (enoughAfter ask aim.Never) (top + 1) 0 (λ N _ _. refl) ∙ omega arith

@@ -16,6 +16,8 @@ use Rattle.theory.proofs.Counting.{count-new, count-le}
 use Rattle.codes.specs.Marks.{isMarked, withMark}
 use Rattle.codes.proofs.Marks.{isMarked-same, isMarked-other, length-withMark}
 use Rattle.walk.specs.declared.Walk.{Walk}
+use Rattle.walk.specs.declared.Rivals.{Rivals}
+use Rattle.walk.specs.Rivals.{standing, Best, Joins}
 use Rattle.walk.specs.Steps.{Counted, Tests}
 
 -- ---- marks
@@ -42,10 +44,11 @@ more marks n i l h new u =
     ∙ rw (isMarked-same marks i h, and-true)
 
 -- w with one entry more tested, at distance d
-abbrev pub tested-at : Walk → ℕ → Walk
-tested-at w d = record { at = w .at; opened = w .opened; tested = record { 0 = w .tested .0 + 1 }; near = w .near + oneIf (ltb d (w .at)); met = w .met }
+abbrev pub tested-at : Walk → ℕ → Rivals → Walk
+tested-at w d rivals =
+    record { at = w .at; opened = w .opened; tested = record { 0 = w .tested .0 + 1 }; near = w .near + oneIf (ltb d (w .at)); rivals = rivals; met = w .met }
 
-module _ (distance : ℕ → ℕ) (words : ℕ) (w : Walk) (marks tally : List ℕ) (c : Counted distance words w marks tally) where
+module _ (star distance : ℕ → ℕ) (words : ℕ) (w : Walk) (marks tally : List ℕ) (c : Counted star distance words w marks tally) where
   pub tally-long : length tally ≡ 257
   tally-long = ap length (c .tally-is) ∙ length-tab _ 257
 
@@ -71,8 +74,9 @@ module _ (distance : ℕ → ℕ) (words : ℕ) (w : Walk) (marks tally : List �
   -- entry i is counted, and is the first time marked
   pub counted-more : (i : ℕ) → i < 64 * words → isMarked marks i ≡ false → distance i < 257 → (r : Walk) → r .at ≡ w .at
       → r .near ≡ w .near + oneIf (ltb (distance i) (w .at)) → r .tested .0 ≡ w .tested .0 + 1
-      → Counted distance words r (withMark marks i) (set tally (distance i) (getD tally (distance i) 0 + 1))
-  counted-more i h new k r at near tested =
+      → Best star (standing distance) (isMarked (withMark marks i)) (r .rivals)
+      → Counted star distance words r (withMark marks i) (set tally (distance i) (getD tally (distance i) 0 + 1))
+  counted-more i h new k r at near tested rivals =
       let long = c .long in
       let more = more marks (64 * words) i h (omega arith) new in
       record {
@@ -84,32 +88,37 @@ module _ (distance : ℕ → ℕ) (words : ℕ) (w : Walk) (marks tally : List �
             (λ d _ ne. more (λ j. eqb (distance j) d) ∙ rw (ne-eqb (distance i) d (λ q. ne (sym q))) (add-zero _));
         near-is = near ∙ rw (c .near-is, at) (sym (more (λ j. ltb (distance j) (w .at))));
         tested-is = tested ∙ rw (c .tested-is) (sym (more (λ _. true)));
+        rivals-are = rivals;
       }
 
-  pub tests-new : (i d : ℕ) (marks′ : List ℕ) → i < 64 * words → isMarked marks i ≡ false → distance i < 257 → d ≡ distance i → marks′ ≡ withMark marks i
-      → Tests distance words (λ j. eqb j i) w (tested-at w d) marks marks′ (set tally d (getD tally d 0 + 1))
-  tests-new i d marks′ h new k e q =
+  pub tests-new : (i d : ℕ) (marks′ : List ℕ) (rivals : Rivals) → i < 64 * words → isMarked marks i ≡ false → distance i < 257 → d ≡ distance i
+      → marks′ ≡ withMark marks i → Joins star i (65536 * d + i) (w .rivals) rivals
+      → Tests star distance words (λ j. eqb j i) w (tested-at w d rivals) marks marks′ (set tally d (getD tally d 0 + 1))
+  tests-new i d marks′ rivals h new k e q joins =
+      let long = c .long in
+      let best : Best star (standing distance) (isMarked (withMark marks i)) rivals =
+      joins (standing distance) (isMarked marks) (isMarked (withMark marks i)) (ap (λ (y : ℕ). 65536 * y + i) (sym e)) (marked-now marks i (omega arith)) (c .rivals-are) in
       rw (e, q)
       (record {
         at = refl;
         opened = refl;
         met = refl;
         marked = marked-now marks i (let long = c .long in omega arith);
-        counted = counted-more i h new k _ refl refl refl;
+        counted = counted-more i h new k _ refl refl refl best;
       })
 
 -- ---- several entries, one after the other
 
-module _ (distance : ℕ → ℕ) (words : ℕ) (w : Walk) (marks : List ℕ) where
+module _ (star distance : ℕ → ℕ) (words : ℕ) (w : Walk) (marks : List ℕ) where
   -- the words may be counted in the list
-  pub at-length : (tally : List ℕ) → Counted distance words w marks tally → Counted distance (length marks) w marks tally
+  pub at-length : (tally : List ℕ) → Counted star distance words w marks tally → Counted star distance (length marks) w marks tally
   at-length tally c = rw (c .long) c
 
-  pub tests-none : (new : ℕ → Bool) (tally : List ℕ) → ((i : ℕ) → new i ≡ false) → Counted distance words w marks tally → Tests distance words new w w marks marks tally
+  pub tests-none : (new : ℕ → Bool) (tally : List ℕ) → ((i : ℕ) → new i ≡ false) → Counted star distance words w marks tally → Tests star distance words new w w marks marks tally
   tests-none new tally none c = record { at = refl; opened = refl; met = refl; marked = λ i. rw (none i) (sym (or-false (isMarked marks i))); counted = c }
 
   pub tests-more : (new also all : ℕ → Bool) (r o : Walk) (marks′ tally′ marks″ tally″ : List ℕ) → ((i : ℕ) → all i ≡ (new i || also i))
-      → Tests distance words new w r marks marks′ tally′ → Tests distance (length marks′) also r o marks′ marks″ tally″ → Tests distance words all w o marks marks″ tally″
+      → Tests star distance words new w r marks marks′ tally′ → Tests star distance (length marks′) also r o marks′ marks″ tally″ → Tests star distance words all w o marks marks″ tally″
   tests-more new also all r o marks′ tally′ marks″ tally″ both h g =
       record {
         at = g .at ∙ h .at;

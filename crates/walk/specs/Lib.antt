@@ -1,2 +1,3 @@
 -- What the walk's functions ask of what they are lent, and say of one another's results.
+pub mod Rivals
 pub mod Steps

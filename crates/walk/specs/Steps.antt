@@ -11,12 +11,16 @@ use Rattle.theory.specs.Lists.{first, tab, upto, count, any, has}
 use Rattle.scope.specs.declared.Shape.{Shape}
 use Rattle.scope.specs.Shape.{listed, m, startsBefore}
 use Rattle.scope.specs.Tables.{Index, index, n, bucket}
-use Rattle.scope.specs.Walk.{Question, question, distanceOf, opened, tested, openedCount, testedCount}
+use Rattle.scope.specs.Walk.{Question, question, distanceOf, starOf, opened, tested, openedCount, testedCount}
+use Rattle.scope.specs.Verdict.{twoStars}
 use Rattle.scope.specs.Refusals.{met, unless, markWords}
 use Rattle.codes.specs.Marks.{isMarked}
+use Rattle.walk.specs.declared.Aim.{Aim}
+use Rattle.walk.specs.declared.Aim.the-variants as aim
 use Rattle.walk.specs.declared.Met.{Met}
 use Rattle.walk.specs.declared.Met.the-variants.{Clear, Refused}
 use Rattle.walk.specs.declared.Walk.{Walk}
+use Rattle.walk.specs.Rivals.{standing, nobody, Best}
 
 -- ---- what is lent
 
@@ -38,20 +42,21 @@ asks shape stars codes starts ids query = question (index shape stars codes star
 
 -- ---- testing
 
--- w's counts are those of the entries that the mark words mark: in the tally how many are at each distance, in `near` how many are nearer than w's steps
-pub record Counted (distance : ℕ → ℕ) (words : ℕ) (w : Walk) (marks tally : List ℕ) : Type 0 where
+-- w's counts and rivals are those of the entries that the mark words mark: in the tally how many are at each distance, in `near` how many are nearer than w's steps
+pub record Counted (star distance : ℕ → ℕ) (words : ℕ) (w : Walk) (marks tally : List ℕ) : Type 0 where
   pub long : length marks ≡ words
   pub tally-is : tally ≡ tab (λ d. count (λ i. eqb (distance i) d && isMarked marks i) (64 * words)) 257
   pub near-is : w .near ≡ count (λ i. ltb (distance i) (w .at) && isMarked marks i) (64 * words)
   pub tested-is : w .tested .0 ≡ count (isMarked marks) (64 * words)
+  pub rivals-are : Best star (standing distance) (isMarked marks) (w .rivals)
 
 -- from w to r the entries that pass `new` were tested
-pub record Tests (distance : ℕ → ℕ) (words : ℕ) (new : ℕ → Bool) (w r : Walk) (marks marks′ tally′ : List ℕ) : Type 0 where
+pub record Tests (star distance : ℕ → ℕ) (words : ℕ) (new : ℕ → Bool) (w r : Walk) (marks marks′ tally′ : List ℕ) : Type 0 where
   pub at : r .at ≡ w .at
   pub opened : r .opened ≡ w .opened
   pub met : r .met ≡ w .met
   pub marked : (i : ℕ) → isMarked marks′ i ≡ (isMarked marks i || new i)
-  pub counted : Counted distance words r marks′ tally′
+  pub counted : Counted star distance words r marks′ tally′
 
 -- ---- opening
 
@@ -72,7 +77,7 @@ pub record Opens (ask : Question) (l : List (ℕ × ℕ)) (w r : Walk) (marks ma
   pub at : r .at ≡ w .at
   pub opened : r .opened .0 ≡ w .opened .0 + length l
   pub marked : (i : ℕ) → isMarked marks′ i ≡ (isMarked marks i || lists (ask .index) l i)
-  pub counted : Counted (distanceOf ask) (markWords (n (ask .index))) r marks′ tally′
+  pub counted : Counted (starOf ask) (distanceOf ask) (markWords (n (ask .index))) r marks′ tally′
 
 -- the buckets l were opened in order, up to the first bad one
 pub record Opening (ask : Question) (l : List (ℕ × ℕ)) (w r : Walk) (marks marks′ tally′ : List ℕ) : Type 0 where
@@ -87,6 +92,7 @@ pub record Start (w : Walk) : Type 0 where
   pub opened : w .opened .0 ≡ 0
   pub tested : w .tested .0 ≡ 0
   pub near : w .near ≡ 0
+  pub rivals : (w .rivals .first ≡ nobody) × (w .rivals .other ≡ nobody)
   pub met : w .met ≡ Clear
 
 -- w is the walk after its steps, which met no bad bucket
@@ -95,7 +101,7 @@ pub record Going (ask : Question) (w : Walk) (marks tally : List ℕ) : Type 0 w
   pub clear : metIn (ask .index) (opened ask (w .at)) ≡ Clear
   pub opened : w .opened .0 ≡ length (opened ask (w .at))
   pub marked : (i : ℕ) → isMarked marks i ≡ tested ask (w .at) i
-  pub counted : Counted (distanceOf ask) (markWords (n (ask .index))) w marks tally
+  pub counted : Counted (starOf ask) (distanceOf ask) (markWords (n (ask .index))) w marks tally
 
 -- from w to r one step was taken
 pub record Stepped (ask : Question) (w r : Walk) (marks tally : List ℕ) : Type 0 where
@@ -109,13 +115,31 @@ pub record Fresh (words : ℕ) (marks tally : List ℕ) : Type 0 where
   pub none : (i : ℕ) → isMarked marks i ≡ false
   pub zeros : tally ≡ tab (λ _. 0) 257
 
--- after N steps: how many tested entries are nearer than N
-abbrev pub nearAfter : Question → ℕ → ℕ
-nearAfter ask N = count (λ i. ltb (distanceOf ask i) N && tested ask N i) (n (ask .index))
+-- after N steps: the tested entries that are nearer than N, and how many they are
+abbrev pub nearer : Question → ℕ → List ℕ
+nearer ask N = upto (λ i. ltb (distanceOf ask i) N && tested ask N i) (n (ask .index))
 
--- the fewest steps after which k tested entries are nearer than their number, or all steps 0 to top
-unfoldable pub stepsTo : Question → ℕ → ℕ → ℕ
-stepsTo ask k top = first (λ N. leb k (nearAfter ask N)) (top + 1)
+abbrev pub nearAfter : Question → ℕ → ℕ
+nearAfter ask N = length (nearer ask N)
+
+-- which entries are enough for an aim, given each entry's star
+abbrev pub enough : Aim → (ℕ → ℕ) → List ℕ → Bool
+enough aim.Never star l = false
+enough (aim.Count k) star l = leb k (length l)
+enough aim.TwoStars star l = twoStars star l
+
+abbrev pub enoughAfter : Question → Aim → ℕ → Bool
+enoughAfter ask aim N = enough aim (starOf ask) (nearer ask N)
+
+-- and when w says so: a runner-up that is nearer than w's steps makes two stars
+unfoldable pub reached : Aim → Walk → Bool
+reached aim.Never w = false
+reached (aim.Count k) w = leb k (w .near)
+reached aim.TwoStars w = ltb (w .rivals .other) (65536 * w .at)
+
+-- the fewest steps that pass the test of their number, or all steps 0 to top
+abbrev pub stepsTo : (ℕ → Bool) → ℕ → ℕ
+stepsTo p top = first p (top + 1)
 
 -- N steps, none of which met a bad bucket
 pub record Ended (ask : Question) (N : ℕ) (r : Walk) (marks tally : List ℕ) : Type 0 where
@@ -124,6 +148,7 @@ pub record Ended (ask : Question) (N : ℕ) (r : Walk) (marks tally : List ℕ) 
   pub theirs : (i : ℕ) → isMarked marks i ≡ true → i < n (ask .index)
   pub tally-is : tally ≡ tab (λ d. count (λ i. eqb (distanceOf ask i) d && isMarked marks i) (n (ask .index))) 257
   pub near : r .near ≡ nearAfter ask N
+  pub rivals : Best (starOf ask) (standing (distanceOf ask)) (tested ask N) (r .rivals)
   pub opened : r .opened ≡ openedCount ask N
   pub tested : r .tested ≡ testedCount ask N
 

@@ -10,12 +10,14 @@ ghost use lib.ListN.{length, getD};
 ghost use Rattle.theory.specs.Lists.{has};
 ghost use Rattle.scope.specs.Codes.{codeOf, substring};
 ghost use Rattle.scope.specs.Search.{nearestSteps, withinSteps};
+ghost use Rattle.scope.specs.Verdict.{verdictSteps};
 ghost use Rattle.scope.specs.Shape.{q, listed, m, firstBit, len, size, startsBefore};
 ghost use Rattle.scope.specs.Tables as tables;
 ghost use Rattle.scope.specs.Tables.{index};
 ghost use Rattle.scope.specs.Refusals.{markWords};
 ghost use Rattle.codes.specs.Distances.{distanceFrom};
-ghost use Rattle.walk.specs.Steps.{Lent, Asked, asks, Counted, Tests, Opening, around, Start, Going, Stepped, Fresh, stepsTo, Walked};
+ghost use Rattle.walk.specs.Rivals.{Joins};
+ghost use Rattle.walk.specs.Steps.{Lent, Asked, asks, Counted, Tests, Opening, around, Start, Going, Stepped, Fresh, reached, enoughAfter, stepsTo, Walked};
 use scope::Opened;
 use scope::Refusal;
 use scope::Shape;
@@ -97,12 +99,68 @@ pub enum Met {
     Refused(Refusal),
 }
 
-// The state of the walk: how many steps were taken, the two counts, and how many tested entries are nearer than the number of steps.
+// An entry's distance and number make one number, its standing: ENTRIES * distance + number, a catalogue having no more entries than that. NOBODY's is above every entry's.
+pub const ENTRIES: u32 = 65536;
+
+pub const NOBODY: u32 = 257 * ENTRIES;
+
+// Of the tested entries the nearest, by its standing and star, and its runner-up, the nearest with another star, by its standing; or NOBODY.
+pub struct Rivals {
+    pub first: u32,
+    pub star: u32,
+    pub other: u32,
+}
+
+impl Rivals {
+    // Entry i comes in, at distance d. Its star is read only where it may count.
+    fn join(self, stars: &[u32], i: usize, d: u32) -> Rivals
+        requires { ⌜ (i < length (now stars)) × (i < 65536) × (d ≤ 256) ⌝ }
+        ensures { λ r. ⌜ Joins (λ (j : ℕ). getD (now (stars .entry)) j 0) i (65536 * d + i) self r ⌝ }
+    {
+        let standing = ENTRIES * d + i as u32;
+        if self.other <= standing {
+            return self;
+        }
+        let star = stars[i];
+        if self.first <= standing {
+            if star == self.star {
+                return self;
+            }
+            return Rivals {
+                first: self.first,
+                star: self.star,
+                other: standing,
+            };
+        }
+        if star == self.star {
+            return Rivals {
+                first: standing,
+                star,
+                other: self.other,
+            };
+        }
+        Rivals {
+            first: standing,
+            star,
+            other: self.first,
+        }
+    }
+}
+
+// When a walk has seen enough: never, or once so many tested entries are nearer than the number of steps, or such entries of two different stars.
+pub enum Aim {
+    Never,
+    Count(u32),
+    TwoStars,
+}
+
+// The state of the walk: how many steps were taken, the two counts, how many tested entries are nearer than the number of steps, the nearest and its runner-up.
 pub struct Walk {
     pub at: u32,
     pub opened: Opened,
     pub tested: Tested,
     pub near: u32,
+    pub rivals: Rivals,
     pub met: Met,
 }
 
@@ -111,6 +169,7 @@ impl Walk {
     fn test(
         self,
         shape: Shape,
+        stars: &[u32],
         codes: &[u64],
         query: &[u64],
         i: usize,
@@ -118,9 +177,9 @@ impl Walk {
         tally: &mut [u32],
     ) -> Walk
         requires { ⌜ (shape .w ≤ 4) × (i * shape .w + shape .w ≤ length (now codes)) × (length (now query) ≡ shape .w) ⌝ }
-        requires { ⌜ (i < 64 * length (now marks)) × (length (now marks) ≤ 1024) ⌝ }
-        requires { ⌜ Counted (distanceFrom (shape .w) (now codes) (now query)) (length (now marks)) self (now marks) (now tally) ⌝ }
-        ensures { λ r. ⌜ Tests (distanceFrom (shape .w) (now (codes .entry)) (now (query .entry))) (length (now (marks .entry))) (λ (j : ℕ). eqb j i) self r (now (marks .entry)) (now (marks .exit)) (now (tally .exit)) ⌝ }
+        requires { ⌜ (i < 64 * length (now marks)) × (length (now marks) ≤ 1024) × (i < length (now stars)) ⌝ }
+        requires { ⌜ Counted (λ (j : ℕ). getD (now stars) j 0) (distanceFrom (shape .w) (now codes) (now query)) (length (now marks)) self (now marks) (now tally) ⌝ }
+        ensures { λ r. ⌜ Tests (λ (j : ℕ). getD (now (stars .entry)) j 0) (distanceFrom (shape .w) (now (codes .entry)) (now (query .entry))) (length (now (marks .entry))) (λ (j : ℕ). eqb j i) self r (now (marks .entry)) (now (marks .exit)) (now (tally .exit)) ⌝ }
     {
         if codes::marked(marks, i) {
             return self;
@@ -132,11 +191,14 @@ impl Walk {
         let opened = self.opened;
         let tested = self.tested;
         let met = self.met;
+        let best = self.rivals;
+        let rivals = best.join(stars, i, d);
         Walk {
             at: self.at,
             opened,
             tested: Tested(tested.0 + 1),
             near: self.near + (d < self.at) as u32,
+            rivals,
             met,
         }
     }
@@ -158,8 +220,8 @@ impl Walk {
         requires { ⌜ Asked (asks shape (now stars) (now codes) (now starts) (now ids) (now query)) ⌝ }
         requires { ⌜ (z < m shape) × (v < size shape z) ⌝ }
         requires { ⌜ tables.bad (index shape (now stars) (now codes) (now starts) (now ids)) z v ≡ false ⌝ }
-        requires { ⌜ Counted (distanceFrom (shape .w) (now codes) (now query)) (markWords (length (now stars))) self (now marks) (now tally) ⌝ }
-        ensures { λ r. ⌜ Tests (distanceFrom (shape .w) (now (codes .entry)) (now (query .entry))) (markWords (length (now (stars .entry)))) (λ (i : ℕ). has i (tables.bucket (index shape (now (stars .entry)) (now (codes .entry)) (now (starts .entry)) (now (ids .entry))) z v)) self r (now (marks .entry)) (now (marks .exit)) (now (tally .exit)) ⌝ }
+        requires { ⌜ Counted (λ (j : ℕ). getD (now stars) j 0) (distanceFrom (shape .w) (now codes) (now query)) (markWords (length (now stars))) self (now marks) (now tally) ⌝ }
+        ensures { λ r. ⌜ Tests (λ (j : ℕ). getD (now (stars .entry)) j 0) (distanceFrom (shape .w) (now (codes .entry)) (now (query .entry))) (markWords (length (now (stars .entry)))) (λ (i : ℕ). has i (tables.bucket (index shape (now (stars .entry)) (now (codes .entry)) (now (starts .entry)) (now (ids .entry))) z v)) self r (now (marks .entry)) (now (marks .exit)) (now (tally .exit)) ⌝ }
     {
         let first = start(shape, starts, z, v);
         let end = start(shape, starts, z, v + 1);
@@ -168,7 +230,7 @@ impl Walk {
         let mut p = first;
         while p < end {
             let i = ids[before + p] as usize;
-            w = w.test(shape, codes, query, i, marks, tally);
+            w = w.test(shape, stars, codes, query, i, marks, tally);
             p += 1;
         }
         w
@@ -190,11 +252,12 @@ impl Walk {
     ) -> Walk
         requires { ⌜ Asked (asks shape (now stars) (now codes) (now starts) (now ids) (now query)) ⌝ }
         requires { ⌜ (z < m shape) × (v < size shape z) × (self .met ≡ Met.Clear) × (self .opened .0 < 16842752) ⌝ }
-        requires { ⌜ Counted (distanceFrom (shape .w) (now codes) (now query)) (markWords (length (now stars))) self (now marks) (now tally) ⌝ }
+        requires { ⌜ Counted (λ (j : ℕ). getD (now stars) j 0) (distanceFrom (shape .w) (now codes) (now query)) (markWords (length (now stars))) self (now marks) (now tally) ⌝ }
         ensures { λ r. ⌜ Opening (asks shape (now (stars .entry)) (now (codes .entry)) (now (starts .entry)) (now (ids .entry)) (now (query .entry))) ((z, v) ∷ []) self r (now (marks .entry)) (now (marks .exit)) (now (tally .exit)) ⌝ }
     {
         let opened = self.opened;
         let tested = self.tested;
+        let rivals = self.rivals;
         if bad_bucket(shape, stars, codes, starts, ids, z, v) {
             let table = z as u32;
             let bucket = v as u32;
@@ -203,6 +266,7 @@ impl Walk {
                 opened,
                 tested,
                 near: self.near,
+                rivals,
                 met: Met::Refused(Refusal::BadBucket { table, bucket }),
             };
         }
@@ -211,6 +275,7 @@ impl Walk {
             opened: Opened(opened.0 + 1),
             tested,
             near: self.near,
+            rivals,
             met: Met::Clear,
         };
         w.test_all(shape, stars, codes, starts, ids, query, z, v, marks, tally)
@@ -234,7 +299,7 @@ impl Walk {
     ) -> Walk
         requires { ⌜ Asked (asks shape (now stars) (now codes) (now starts) (now ids) (now query)) ⌝ }
         requires { ⌜ (z < m shape) × (sub < size shape z) × (mask < size shape z) × (self .met ≡ Met.Clear) × (self .opened .0 < 16842752) ⌝ }
-        requires { ⌜ Counted (distanceFrom (shape .w) (now codes) (now query)) (markWords (length (now stars))) self (now marks) (now tally) ⌝ }
+        requires { ⌜ Counted (λ (j : ℕ). getD (now stars) j 0) (distanceFrom (shape .w) (now codes) (now query)) (markWords (length (now stars))) self (now marks) (now tally) ⌝ }
         ensures { λ o. ⌜ Opening (asks shape (now (stars .entry)) (now (codes .entry)) (now (starts .entry)) (now (ids .entry)) (now (query .entry))) (cond (eqb (ones mask) r) ((z, bitXor sub mask) ∷ []) []) self o (now (marks .entry)) (now (marks .exit)) (now (tally .exit)) ⌝ }
     {
         if usize::count_ones(mask) != r {
@@ -270,7 +335,7 @@ impl Walk {
     ) -> Walk
         requires { ⌜ Asked (asks shape (now stars) (now codes) (now starts) (now ids) (now query)) ⌝ }
         requires { ⌜ (z < m shape) × (self .met ≡ Met.Clear) × (self .opened .0 ≤ 16777216) ⌝ }
-        requires { ⌜ Counted (distanceFrom (shape .w) (now codes) (now query)) (markWords (length (now stars))) self (now marks) (now tally) ⌝ }
+        requires { ⌜ Counted (λ (j : ℕ). getD (now stars) j 0) (distanceFrom (shape .w) (now codes) (now query)) (markWords (length (now stars))) self (now marks) (now tally) ⌝ }
         ensures { λ o. ⌜ Opening (asks shape (now (stars .entry)) (now (codes .entry)) (now (starts .entry)) (now (ids .entry)) (now (query .entry))) (around z r (substring (firstBit shape z) (len shape z) (now (query .entry))) (size shape z)) self o (now (marks .entry)) (now (marks .exit)) (now (tally .exit)) ⌝ }
     {
         let sub = query_substring(shape, query, z);
@@ -310,6 +375,11 @@ impl Walk {
             opened: Opened(0),
             tested: Tested(0),
             near: 0,
+            rivals: Rivals {
+                first: NOBODY,
+                star: 0,
+                other: NOBODY,
+            },
             met: Met::Clear,
         }
     }
@@ -337,18 +407,33 @@ impl Walk {
         let r = (step / m) as u32;
         let opened = self.opened;
         let tested = self.tested;
+        let rivals = self.rivals;
         let w = Walk {
             at: self.at + 1,
             opened,
             tested,
             near: self.near + tally[step],
+            rivals,
             met: Met::Clear,
         };
         w.open_all(shape, stars, codes, starts, ids, query, a, r, marks, tally)
     }
+
+    // Whether the walk has seen enough.
+    fn done(self, aim: Aim) -> bool
+        requires { ⌜ self .at ≤ 256 ⌝ }
+        ensures { λ r. ⌜ r ≡ reached aim self ⌝ }
+    {
+        let rivals = self.rivals;
+        match aim {
+            Aim::Never => false,
+            Aim::Count(k) => k <= self.near,
+            Aim::TwoStars => rivals.other < ENTRIES * self.at,
+        }
+    }
 }
 
-// Takes steps until k tested entries are nearer than the number of steps, or step top is taken, or a bad bucket is met.
+// Takes steps until the walk has seen enough, or step top is taken, or a bad bucket is met.
 fn until(
     shape: Shape,
     stars: &[u32],
@@ -356,7 +441,7 @@ fn until(
     starts: &[u32],
     ids: &[u32],
     query: &[u64],
-    k: u32,
+    aim: Aim,
     top: u32,
     marks: &mut [u64],
     tally: &mut [u32],
@@ -364,11 +449,11 @@ fn until(
     requires { ⌜ Asked (asks shape (now stars) (now codes) (now starts) (now ids) (now query)) ⌝ }
     requires { ⌜ top ≤ 256 ⌝ }
     requires { ⌜ Fresh (markWords (length (now stars))) (now marks) (now tally) ⌝ }
-    ensures { λ r. ⌜ (let ask = asks shape (now (stars .entry)) (now (codes .entry)) (now (starts .entry)) (now (ids .entry)) (now (query .entry)) in Walked ask (stepsTo ask k top) r (now (marks .exit)) (now (tally .exit))) ⌝ }
+    ensures { λ r. ⌜ (let ask = asks shape (now (stars .entry)) (now (codes .entry)) (now (starts .entry)) (now (ids .entry)) (now (query .entry)) in Walked ask (stepsTo (enoughAfter ask aim) top) r (now (marks .exit)) (now (tally .exit))) ⌝ }
 {
     let mut w = Walk::start();
     while w.at <= top {
-        if k <= w.near {
+        if w.done(aim) {
             return w;
         }
         w = w.step(shape, stars, codes, starts, ids, query, marks, tally);
@@ -404,15 +489,12 @@ pub fn nearest(
         starts,
         ids,
         query,
-        k,
+        Aim::Count(k),
         64 * shape.w,
         marks,
         tally,
     )
 }
-
-// More than the entries of any catalogue: no search finds as many.
-const NEVER: u32 = 65537;
 
 // The walk of a search within r: every step to r, and none where there are no entries.
 pub fn within(
@@ -441,8 +523,40 @@ pub fn within(
         starts,
         ids,
         query,
-        NEVER,
+        Aim::Never,
         r,
+        marks,
+        tally,
+    )
+}
+
+// The walk of a verdict: until tested entries of two different stars are near, and no step where there are no entries.
+pub fn verdict(
+    shape: Shape,
+    stars: &[u32],
+    codes: &[u64],
+    starts: &[u32],
+    ids: &[u32],
+    query: &[u64],
+    marks: &mut [u64],
+    tally: &mut [u32],
+) -> Walk
+    requires { ⌜ Asked (asks shape (now stars) (now codes) (now starts) (now ids) (now query)) ⌝ }
+    requires { ⌜ Fresh (markWords (length (now stars))) (now marks) (now tally) ⌝ }
+    ensures { λ o. ⌜ (let ask = asks shape (now (stars .entry)) (now (codes .entry)) (now (starts .entry)) (now (ids .entry)) (now (query .entry)) in Walked ask (verdictSteps ask) o (now (marks .exit)) (now (tally .exit))) ⌝ }
+{
+    if stars.len() == 0 {
+        return Walk::start();
+    }
+    until(
+        shape,
+        stars,
+        codes,
+        starts,
+        ids,
+        query,
+        Aim::TwoStars,
+        64 * shape.w,
         marks,
         tally,
     )

@@ -44,7 +44,8 @@ enum-known-met c = search needs
 
 wipe-requires : tie.Need-wipe-requires
 wipe-requires c κs =
-    let s : tie.Start = search in
+    let at-nearest : tie.After-nearest = search in
+    let s = start-of at-nearest in
     (s .pre .1 .0 .1, s .pre .1 .0 .2)
 
 same-length : tie.Need-same-length

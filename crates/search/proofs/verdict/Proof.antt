@@ -2,12 +2,9 @@
 use mathlib.Core.Path.{_≡_, refl, sym, ap, _∙_}
 use mathlib.Core.List.{[], _∷_}
 use Prim.Native.Nat.{ℕ, max}
-use native.Mathlib.Omega.{arith}
-use lib.ListN.{getD}
 use lib.Seq.{length-take-le}
-use Rattle.theory.specs.Lists.{cat}
-use Rattle.scope.specs.Walk.{Question, distanceOf}
-use Rattle.scope.specs.Verdict.{verdictOf}
+use Rattle.theory.specs.Lists.{cat, padded}
+use Rattle.scope.specs.Walk.{Question}
 use Rattle.scope.specs.Refusals.{unless, oneToFive}
 use Rattle.shapes.specs.declared.Early.{Early}
 use Rattle.shapes.specs.declared.Early.the-variants.{Fine, Refused}
@@ -58,109 +55,52 @@ returns c =
 enum-told : tie.Need-enum-told
 enum-told c = search needs
 
-smaller-requires : tie.Need-smaller-requires
-smaller-requires c κs = search needs
-
 add-words : tie.Need-add-words
 add-words c = search needs
 
-slice-relend-prefix-list-nearest : tie.Need-slice-relend-prefix-list-nearest
-slice-relend-prefix-list-nearest c =
-    let at-refused : tie.After-refused = search in
-    let at-larger : tie.After-larger = search in
-    let s : tie.Start = search in
-    fit s _ _ (at-larger .larger .ensures) (at-refused .refused .ensures) (c .before .enum-told .given .1) .room
-
-slice-aggregate-list-nearest : tie.Need-slice-aggregate-list-nearest
-slice-aggregate-list-nearest c =
-    let at-refused : tie.After-refused = search in
-    let at-larger : tie.After-larger = search in
-    let s : tie.Start = search in
-    sym (length-take-le _ _ (fit s _ _ (at-larger .larger .ensures) (at-refused .refused .ensures) (c .before .before .enum-told .given .1) .room))
-
-slice-aggregate-list-nearest-2 : tie.Need-slice-aggregate-list-nearest-2
-slice-aggregate-list-nearest-2 c = search needs
-
-slice-aggregate-list-nearest-3 : tie.Need-slice-aggregate-list-nearest-3
-slice-aggregate-list-nearest-3 c = search needs
-
-slice-aggregate-list-nearest-4 : tie.Need-slice-aggregate-list-nearest-4
-slice-aggregate-list-nearest-4 c = search needs
-
-list-nearest-requires : tie.Need-list-nearest-requires
-unfolding cat
-list-nearest-requires c κs =
-    let at-smaller : tie.After-smaller = search in
-    let at-enum-told : tie.After-enum-told = search in
-    let at-refused : tie.After-refused = search in
-    let at-larger : tie.After-larger = search in
-    let s : tie.Start = search in
-    let f = fit s _ _ (at-larger .larger .ensures) (at-refused .refused .ensures) (at-enum-told .enum-told .given .1) in
-    let places = at-smaller .smaller .ensures in
-    (f .asked, ((omega arith, omega arith, omega arith), (length-take-le _ _ (f .room), refl)))
-
-enum-known-found : tie.Need-enum-known-found
-enum-known-found c = search needs
-
-enum-known-found-2 : tie.Need-enum-known-found-2
-enum-known-found-2 c = search needs
-
-slice-aggregate-judge : tie.Need-slice-aggregate-judge
-slice-aggregate-judge c = search needs
-
-slice-aggregate-judge-2 : tie.Need-slice-aggregate-judge-2
-slice-aggregate-judge-2 c = search needs
-
-judge-requires : tie.Need-judge-requires
-judge-requires c κs =
-    let at-found2 : tie.After-found2 = search in
-    let at-list-nearest : tie.After-list-nearest = search in
-    let at-smaller : tie.After-smaller = search in
-    let at-enum-told : tie.After-enum-told = search in
+slice-relend-prefix-give-verdict : tie.Need-slice-relend-prefix-give-verdict
+slice-relend-prefix-give-verdict c =
+    let at-told : tie.After-enum-told = search in
     let at-refused : tie.After-refused = search in
     let at-larger : tie.After-larger = search in
     let s = start-of at-refused in
-    let fine = outcome s _ _ (at-larger .larger .ensures) (at-refused .refused .ensures) ∙ at-enum-told .enum-told .given .1 in
-    let room = fit s _ _ (at-larger .larger .ensures) (at-refused .refused .ensures) (at-enum-told .enum-told .given .1) .room in
-    let end = rw (at-smaller .smaller .ensures) at (at-list-nearest .list-nearest .ensures) in
-    Verdicts.first-two (Ask s) (s .args .marks .now) (s .args .t) (s .args .g) fine room _ _ _ _ end _ (at-found2 .found2 .given .1)
+    fit s _ _ (at-larger .larger .ensures) (at-refused .refused .ensures) (at-told .enum-told .given .1) .room
+
+slice-aggregate-give-verdict : tie.Need-slice-aggregate-give-verdict
+slice-aggregate-give-verdict c =
+    let at-told : tie.After-enum-told = search in
+    let at-refused : tie.After-refused = search in
+    let at-larger : tie.After-larger = search in
+    let s = start-of at-refused in
+    sym (length-take-le _ _ (fit s _ _ (at-larger .larger .ensures) (at-refused .refused .ensures) (at-told .enum-told .given .1) .room))
+
+slice-aggregate-give-verdict-2 : tie.Need-slice-aggregate-give-verdict-2
+slice-aggregate-give-verdict-2 c = search needs
+
+give-verdict-requires : tie.Need-give-verdict-requires
+unfolding cat
+give-verdict-requires c κs =
+    let at-told : tie.After-enum-told = search in
+    let at-refused : tie.After-refused = search in
+    let at-larger : tie.After-larger = search in
+    let s = start-of at-refused in
+    let f = fit s _ _ (at-larger .larger .ensures) (at-refused .refused .ensures) (at-told .enum-told .given .1) in
+    (f .asked, (length-take-le _ _ (f .room), refl))
 
 same-length-2 : tie.Need-same-length-2
 same-length-2 c = search needs
 
 returns-2 : tie.Need-returns-2
 returns-2 c =
-    let at-list-nearest : tie.After-list-nearest = search in
-    let at-smaller : tie.After-smaller = search in
-    let at-enum-told : tie.After-enum-told = search in
-    let at-refused : tie.After-refused = search in
-    let at-larger : tie.After-larger = search in
-    let s : tie.Start = search in
-    let fine = outcome s _ _ (at-larger .larger .ensures) (at-refused .refused .ensures) ∙ at-enum-told .enum-told .given .1 in
-    let room = fit s _ _ (at-larger .larger .ensures) (at-refused .refused .ensures) (at-enum-told .enum-told .given .1) .room in
-    let end = rw (at-smaller .smaller .ensures) at (at-list-nearest .list-nearest .ensures) in
-    Verdicts.verdict-refused (Ask s) (s .args .marks .now) (s .args .t) (s .args .g) fine room _ _ _ _ end _ (c .before .found .given .1)
-
-same-length-3 : tie.Need-same-length-3
-same-length-3 c = search needs
-
-returns-3 : tie.Need-returns-3
-returns-3 c =
-    let at-found2 : tie.After-found2 = search in
-    let at-list-nearest : tie.After-list-nearest = search in
-    let at-smaller : tie.After-smaller = search in
-    let at-enum-told : tie.After-enum-told = search in
+    let at-give : tie.After-give-verdict = search in
+    let at-told : tie.After-enum-told = search in
     let at-refused : tie.After-refused = search in
     let at-larger : tie.After-larger = search in
     let s = start-of at-refused in
-    let fine = outcome s _ _ (at-larger .larger .ensures) (at-refused .refused .ensures) ∙ at-enum-told .enum-told .given .1 in
-    let room = fit s _ _ (at-larger .larger .ensures) (at-refused .refused .ensures) (at-enum-told .enum-told .given .1) .room in
-    let end = rw (at-smaller .smaller .ensures) at (at-list-nearest .list-nearest .ensures) in
-    let rep = at-found2 .found2 .given .0 .0 in
-    let is = at-found2 .found2 .given .1 in
-    Verdicts.verdict-given (Ask s) (s .args .marks .now) (s .args .t) (s .args .g) fine room _ _ _ _ end rep is _
-    (c .before .before .judge .ensures (distanceOf (Ask s)) (Verdicts.same-distances (Ask s) (s .args .marks .now) (s .args .t) (s .args .g) fine room _ _ _ _ end rep is)
-    ∙ ap (verdictOf (λ i. getD (s .args .stars .now) i 0) (distanceOf (Ask s)) (s .args .t) (s .args .g)) (Verdicts.same-entries (Ask s) (s .args .marks .now) (s .args .t) (s .args .g) fine room _ _ _ _ end rep is))
+    let fine = outcome s _ _ (at-larger .larger .ensures) (at-refused .refused .ensures) ∙ at-told .enum-told .given .1 in
+    let room = fit s _ _ (at-larger .larger .ensures) (at-refused .refused .ensures) (at-told .enum-told .given .1) .room in
+    Verdicts.verdict-whole (Ask s) (s .args .marks .now) (s .args .t) (s .args .g) fine _ _ (at-give .give-verdict .ensures .0)
+    (at-give .give-verdict .ensures .1 ∙ ap (λ (k : ℕ). padded k []) (length-take-le _ _ room))
 
 pub verdict-spec : {M : Type 1} → statement M
 verdict-spec =
@@ -172,20 +112,10 @@ verdict-spec =
     same-length
     returns
     enum-told
-    smaller-requires
     add-words
-    slice-relend-prefix-list-nearest
-    slice-aggregate-list-nearest
-    slice-aggregate-list-nearest-2
-    slice-aggregate-list-nearest-3
-    slice-aggregate-list-nearest-4
-    list-nearest-requires
-    enum-known-found
-    enum-known-found-2
-    slice-aggregate-judge
-    slice-aggregate-judge-2
-    judge-requires
+    slice-relend-prefix-give-verdict
+    slice-aggregate-give-verdict
+    slice-aggregate-give-verdict-2
+    give-verdict-requires
     same-length-2
-    returns-2
-    same-length-3
-    returns-3)
+    returns-2)

@@ -1,24 +1,37 @@
 -- `walk::until` meets its contract. Assumes nothing.
-use mathlib.Core.Path.{_≡_, refl}
-use Prim.Native.Nat.{_+_, _-_}
+use mathlib.Core.Path.{_≡_, refl, sym, _∙_}
+use mathlib.Core.Bool.{Bool}
+use mathlib.Core.List.{List}
+use Prim.Native.Nat.{ℕ, _+_, _-_, _≤_}
 use native.Mathlib.Omega.{arith}
 use lib.ListN.{length}
 use Rattle.scope.specs.Walk.{Question}
-use Rattle.walk.specs.Steps.{asks}
+use Rattle.walk.specs.declared.Walk.{Walk}
+use Rattle.walk.specs.Steps.{asks, Going, enoughAfter, reached}
 use Rattle.walk.proofs.Stepping
 use borrow.Author.Needs.{needs}
 use Rattle.walk.proofs.until.Statement.{statement}
 use Rattle.walk.proofs.until.Tie as tie
 
 abbrev Inv-loop : tie.InvT-loop
-Inv-loop shape stars codes starts ids query k top marks₀ tally₀ w₀ marks tally w =
-    Stepping.Far (asks shape stars codes starts ids query) k top w marks tally × (length marks ≡ length marks₀) × (length tally ≡ length tally₀)
+Inv-loop shape stars codes starts ids query aim top marks₀ tally₀ w₀ marks tally w =
+    Stepping.Far (asks shape stars codes starts ids query) (enoughAfter (asks shape stars codes starts ids query) aim) top w marks tally × (length marks ≡ length marks₀) × (length tally ≡ length tally₀)
 
 abbrev μ-loop : tie.MeasureT-loop
-μ-loop shape stars codes starts ids query k top marks₀ tally₀ w₀ marks tally w = top + 1 - w .at
+μ-loop shape stars codes starts ids query aim top marks₀ tally₀ w₀ marks tally w = top + 1 - w .at
 
 abbrev Ask : tie.Start Inv-loop μ-loop → Question
 Ask c = asks (c .args .shape) (c .args .stars .now) (c .args .codes .now) (c .args .starts .now) (c .args .ids .now) (c .args .query .now)
+
+-- the start, seen from behind a later call
+abbrev start-of : tie.At-loop Inv-loop μ-loop → tie.Start Inv-loop μ-loop
+start-of c = search
+
+-- what `done` says, it says of the steps so far
+told : (c : tie.Start Inv-loop μ-loop) (w : Walk) (marks tally : List ℕ) (said : Bool) → Going (Ask c) w marks tally → w .at ≤ c .args .top → said ≡ reached (c .args .aim) w
+    → enoughAfter (Ask c) (c .args .aim) (w .at) ≡ said
+told c w marks tally said h l e =
+    Stepping.reached-is (Ask c) w marks tally h (c .args .aim) (c .pre .0 .lent .few) (let t = c .pre .1 .0 in omega arith) ∙ sym e
 
 start-requires : tie.Need-start-requires Inv-loop μ-loop
 start-requires c κs = search needs
@@ -28,6 +41,12 @@ loop-holds c =
     let s : tie.Start Inv-loop μ-loop = search in
     (Stepping.far-none (Ask s) _ _ _ _ _ (c .start .ensures) (s .pre .1 .1), refl, refl)
 
+done-requires : tie.Need-done-requires Inv-loop μ-loop
+done-requires c κs =
+    let at-if1 : tie.Then1 Inv-loop μ-loop = search in
+    let s : tie.Start Inv-loop μ-loop = search in
+    let l = at-if1 .if1 .taken in let t = s .pre .1 .0 in omega arith
+
 same-length : tie.Need-same-length Inv-loop μ-loop
 same-length c = search needs
 
@@ -36,8 +55,14 @@ same-length-2 c = search needs
 
 returns : tie.Need-returns Inv-loop μ-loop
 returns c =
+    let at-if2 : tie.Then2 Inv-loop μ-loop = search in
+    let at-done : tie.After-done Inv-loop μ-loop = search in
+    let at-if1 : tie.Then1 Inv-loop μ-loop = search in
     let at-loop : tie.At-loop Inv-loop μ-loop = search in
-    Stepping.walked-near _ _ _ _ _ _ (at-loop .loop .inv .0) (let l = c .before .before .if1 .taken in omega arith) (c .if2 .taken)
+    let s = start-of at-loop in
+    let far = at-loop .loop .inv .0 in
+    let l : at-loop .loop .w .at ≤ s .args .top = let t = at-if1 .if1 .taken in omega arith in
+    Stepping.walked-enough _ _ _ _ _ _ far l (told s _ _ _ _ (far .going) l (at-done .done .ensures) ∙ at-if2 .if2 .taken)
 
 step-requires : tie.Need-step-requires Inv-loop μ-loop
 step-requires c κs =
@@ -59,9 +84,13 @@ returns-2 : tie.Need-returns-2 Inv-loop μ-loop
 returns-2 c =
     let at-step : tie.After-step Inv-loop μ-loop = search in
     let at-if2 : tie.Else2 Inv-loop μ-loop = search in
+    let at-done : tie.After-done Inv-loop μ-loop = search in
     let at-if1 : tie.Then1 Inv-loop μ-loop = search in
     let at-loop : tie.At-loop Inv-loop μ-loop = search in
-    Stepping.walked-bad _ _ _ _ _ _ (at-loop .loop .inv .0) (let l = at-if1 .if1 .taken in omega arith) (at-if2 .if2 .left) _ _ _ (at-step .step .ensures) _ (c .enum-told .given .1)
+    let s = start-of at-loop in
+    let far = at-loop .loop .inv .0 in
+    let l : at-loop .loop .w .at ≤ s .args .top = let t = at-if1 .if1 .taken in omega arith in
+    Stepping.walked-bad _ _ _ _ _ _ far l (told s _ _ _ _ (far .going) l (at-done .done .ensures) ∙ at-if2 .if2 .left) _ _ _ (at-step .step .ensures) _ (c .enum-told .given .1)
 
 enum-told-2 : tie.Need-enum-told-2 Inv-loop μ-loop
 enum-told-2 c = search needs
@@ -76,9 +105,13 @@ loop-again : tie.Need-loop-again Inv-loop μ-loop
 loop-again c = (
   (let at-step : tie.After-step Inv-loop μ-loop = search in
       let at-if2 : tie.Else2 Inv-loop μ-loop = search in
+      let at-done : tie.After-done Inv-loop μ-loop = search in
       let at-if1 : tie.Then1 Inv-loop μ-loop = search in
       let at-loop : tie.At-loop Inv-loop μ-loop = search in
-      Stepping.far-more _ _ _ _ _ _ (at-loop .loop .inv .0) (let l = at-if1 .if1 .taken in omega arith) (at-if2 .if2 .left) _ _ _ (at-step .step .ensures) (c .enum-told2 .given .1)),
+      let s = start-of at-loop in
+      let far = at-loop .loop .inv .0 in
+      let l : at-loop .loop .w .at ≤ s .args .top = let t = at-if1 .if1 .taken in omega arith in
+      Stepping.far-more _ _ _ _ _ _ far l (told s _ _ _ _ (far .going) l (at-done .done .ensures) ∙ at-if2 .if2 .left) _ _ _ (at-step .step .ensures) (c .enum-told2 .given .1)),
   search needs,
   search needs,
 )
@@ -100,6 +133,7 @@ until-spec =
     μ-loop
     start-requires
     loop-holds
+    done-requires
     same-length
     same-length-2
     returns

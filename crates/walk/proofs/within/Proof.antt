@@ -39,7 +39,7 @@ returns-2 c =
     let at-until : tie.After-until = search in
     let at-if1 : tie.Else1 = search in
     let s : tie.Start = search in
-    rw (ne-eqb _ _ (at-if1 .if1 .left)) (rw (Stepping.all-steps (Ask s) 65537 (s .args .r) (let f = s .pre .0 .lent .few in omega arith)) at (at-until .until .ensures))
+    rw (ne-eqb _ _ (at-if1 .if1 .left)) (rw (Stepping.all-steps (Ask s) (s .args .r)) at (at-until .until .ensures))
 
 pub within-spec : {M : Type 1} → statement M
 within-spec =

@@ -36,8 +36,8 @@ returns c =
     let s : tie.Start = search in
     Opening.opening-refused (Ask s) _ _ _ _ _ _ _ (sym (c .before .bad-bucket .ensures) ∙ c .if1 .taken) refl
 
-add-t20 : tie.Need-add-t20
-add-t20 c = search needs
+add-t21 : tie.Need-add-t21
+add-t21 c = search needs
 
 test-all-requires : tie.Need-test-all-requires
 test-all-requires c κs =
@@ -45,7 +45,7 @@ test-all-requires c κs =
     let at-bad-bucket : tie.After-bad-bucket = search in
     let s : tie.Start = search in
     let n = s .pre .1 .1 in
-    (s .pre .0, ((s .pre .1 .0 .0, s .pre .1 .0 .1), (sym (at-bad-bucket .bad-bucket .ensures) ∙ at-if1 .if1 .left, record { long = n .long; tally-is = n .tally-is; near-is = n .near-is; tested-is = n .tested-is })))
+    (s .pre .0, ((s .pre .1 .0 .0, s .pre .1 .0 .1), (sym (at-bad-bucket .bad-bucket .ensures) ∙ at-if1 .if1 .left, record { long = n .long; tally-is = n .tally-is; near-is = n .near-is; tested-is = n .tested-is; rivals-are = n .rivals-are })))
 
 same-length : tie.Need-same-length
 same-length c = search needs
@@ -69,7 +69,7 @@ open-spec =
     cast-table
     cast-bucket
     returns
-    add-t20
+    add-t21
     test-all-requires
     same-length
     same-length-2

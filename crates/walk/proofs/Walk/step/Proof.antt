@@ -7,7 +7,7 @@ use native.Mathlib.Nat.{mod-lt, div-le-self}
 use native.Mathlib.Omega.{arith}
 use lib.ListN.{length, getD}
 use Rattle.scope.specs.Shape.{m}
-use Rattle.scope.specs.Walk.{Question, distanceOf, opens}
+use Rattle.scope.specs.Walk.{Question, distanceOf, starOf, opens}
 use Rattle.scope.proofs.Shapes.{facts}
 use Rattle.scope.proofs.Walking.{opened-few}
 use Rattle.walk.specs.declared.Met.the-variants.{Clear}
@@ -24,7 +24,7 @@ Ask c = asks (c .args .shape) (c .args .stars .now) (c .args .codes .now) (c .ar
 
 -- the walk with one step more, before that step opens its buckets
 abbrev next : Walk → List ℕ → Walk
-next w tally = record { at = w .at + 1; opened = w .opened; tested = w .tested; near = w .near + getD tally (w .at) 0; met = Clear }
+next w tally = record { at = w .at + 1; opened = w .opened; tested = w .tested; near = w .near + getD tally (w .at) 0; rivals = w .rivals; met = Clear }
 
 -- what the step's needs ask
 record Ready (ask : Question) (w : Walk) (tally : List ℕ) : Type 0 where
@@ -39,13 +39,13 @@ ready : (ask : Question) (w : Walk) (marks tally : List ℕ) → Asked ask → w
 ready ask w marks tally a l h =
     let f = facts _ (a .lent .known) in
     let many = a .lent .few in
-    let c = Stepping.counted-reach (distanceOf ask) _ w (next w tally) marks tally l refl refl refl (h .counted) in
+    let c = Stepping.counted-reach (starOf ask) (distanceOf ask) _ w (next w tally) marks tally l refl refl refl refl (h .counted) in
     record {
       some = f .some-tables;
       table = mod-lt (w .at) (f .some-tables);
       radius = div-le-self (w .at) (m (ask .index .shape));
-      long = Testing.tally-long (distanceOf ask) _ w marks tally (h .counted);
-      few = omega (arith, Testing.few (distanceOf ask) _ (next w tally) marks tally c (omega arith) 0 (omega arith) .near false);
+      long = Testing.tally-long (starOf ask) (distanceOf ask) _ w marks tally (h .counted);
+      few = omega (arith, Testing.few (starOf ask) (distanceOf ask) _ (next w tally) marks tally c (omega arith) 0 (omega arith) .near false);
       buckets = omega (arith, h .opened, opened-few ask f (w .at));
     }
 
@@ -73,19 +73,19 @@ cast-r c =
     let s : tie.Start = search in
     let l = s .pre .1 .0 in rw (c .before .tables .ensures) (omega (arith, at s .radius))
 
-add-t18 : tie.Need-add-t18
-add-t18 c = search needs
+add-t19 : tie.Need-add-t19
+add-t19 c = search needs
 
-mul-t17 : tie.Need-mul-t17
-mul-t17 c = search needs
+mul-t18 : tie.Need-mul-t18
+mul-t18 c = search needs
 
-slice-read-t20 : tie.Need-slice-read-t20
-slice-read-t20 c =
+slice-read-t21 : tie.Need-slice-read-t21
+slice-read-t21 c =
     let s : tie.Start = search in
     omega (arith, at s .long)
 
-add-t21 : tie.Need-add-t21
-add-t21 c =
+add-t22 : tie.Need-add-t22
+add-t22 c =
     let s : tie.Start = search in
     omega (arith, at s .few)
 
@@ -97,7 +97,7 @@ open-all-requires c κs =
       s .pre .0,
       (
         (rw (at-tables .tables .ensures) (r .table), refl, r .buckets),
-        Stepping.counted-reach (distanceOf (Ask s)) _ (s .args .self) _ _ _ (s .pre .1 .0) refl refl refl (s .pre .1 .1 .counted),
+        Stepping.counted-reach (starOf (Ask s)) (distanceOf (Ask s)) _ (s .args .self) _ _ _ (s .pre .1 .0) refl refl refl refl (s .pre .1 .1 .counted),
       ),
     )
 
@@ -124,10 +124,10 @@ step-spec =
     rem-a
     div-r
     cast-r
-    add-t18
-    mul-t17
-    slice-read-t20
-    add-t21
+    add-t19
+    mul-t18
+    slice-read-t21
+    add-t22
     open-all-requires
     same-length
     same-length-2

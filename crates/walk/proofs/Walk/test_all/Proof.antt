@@ -7,7 +7,7 @@ use native.Mathlib.Nat.{le-refl}
 use native.Mathlib.Numerals.{add-one}
 use native.Mathlib.Omega.{arith}
 use lib.Dec.{eqb}
-use lib.ListN.{length}
+use lib.ListN.{length, getD}
 use Rattle.theory.specs.Lists.{between, has}
 use Rattle.theory.proofs.Lists.{between-suc, between-none, has-append, has-one, has-none}
 use Rattle.theory.proofs.Parts.{in-parts}
@@ -36,14 +36,14 @@ one-more x z v p h i =
     rw (add-one p, between-suc (start x z v) p h, map-append) (has-append i (map (idAt x z) (between (start x z v) p)) _ ∙ rw has-one)
 
 -- the places before p are through
-record Through (x : Index) (z v : ℕ) (distance : ℕ → ℕ) (w r : Walk) (marks marks′ tally′ : List ℕ) (p : ℕ) : Type 0 where
+record Through (x : Index) (z v : ℕ) (star distance : ℕ → ℕ) (w r : Walk) (marks marks′ tally′ : List ℕ) (p : ℕ) : Type 0 where
   from : start x z v ≤ p
   to : p ≤ start x z (v + 1)
-  tests : Tests distance (markWords (n x)) (before x z v p) w r marks marks′ tally′
+  tests : Tests star distance (markWords (n x)) (before x z v p) w r marks marks′ tally′
 
 abbrev Inv-loop : tie.InvT-loop
 Inv-loop shape stars codes starts ids query z v marks₀ tally₀ first end before w₀ p₀ marks tally w p =
-    Through (index shape stars codes starts ids) z v (distanceFrom (shape .w) codes query) w₀ w marks₀ marks tally p
+    Through (index shape stars codes starts ids) z v (λ j. getD stars j 0) (distanceFrom (shape .w) codes query) w₀ w marks₀ marks tally p
 
 abbrev μ-loop : tie.MeasureT-loop
 μ-loop shape stars codes starts ids query z v marks₀ tally₀ first end before w₀ p₀ marks tally w p = end - p
@@ -53,6 +53,9 @@ X c = index (c .args .shape) (c .args .stars .now) (c .args .codes .now) (c .arg
 
 abbrev D : tie.Start Inv-loop μ-loop → ℕ → ℕ
 D c = distanceFrom (c .args .shape .w) (c .args .codes .now) (c .args .query .now)
+
+abbrev S : tie.Start Inv-loop μ-loop → ℕ → ℕ
+S c j = getD (c .args .stars .now) j 0
 
 room : (c : tie.Start Inv-loop μ-loop) → c .args .z * n (X c) + n (X c) ≤ length (c .args .ids .now)
 room c = in-ids (X c) (c .pre .0 .lent) (c .args .z) (c .pre .1 .0 .0)
@@ -92,7 +95,7 @@ loop-holds c =
     (record {
       from = omega arith;
       to = sound s .order;
-      tests = Testing.tests-none _ _ _ _ _ _ (none-yet (X s) (s .args .z) (s .args .v)) (s .pre .1 .1 .1);
+      tests = Testing.tests-none _ _ _ _ _ _ _ (none-yet (X s) (s .args .z) (s .args .v)) (s .pre .1 .1 .1);
     })
 
 add-i : tie.Need-add-i Inv-loop μ-loop
@@ -134,8 +137,8 @@ test-requires c κs =
     let row = in-parts (idAt x (s .args .z) (at-loop .loop .p)) (n x) (s .args .shape .w) entry in (
       (f .few-words, (let l = s .pre .0 .lent .codes in omega arith), s .pre .0 .query),
       (
-        (omega arith, omega arith),
-        Testing.at-length _ _ _ _ _ (inv .tests .counted),
+        (omega arith, omega arith, entry),
+        Testing.at-length _ _ _ _ _ _ (inv .tests .counted),
       ),
     )
 
@@ -158,7 +161,7 @@ loop-again c =
       from = let l = inv .from in omega arith;
       to = let e = at-start2 .start2 .ensures in omega (arith, at-loop-test .loop-test .taken);
       tests =
-          Testing.tests-more (D s) _ _ _ _ _ _ _ _ _ _ _ _ (one-more (X s) (s .args .z) (s .args .v) (at-loop .loop .p) (inv .from)) (inv .tests) (at-test .test .ensures);
+          Testing.tests-more (S s) (D s) _ _ _ _ _ _ _ _ _ _ _ _ (one-more (X s) (s .args .z) (s .args .v) (at-loop .loop .p) (inv .from)) (inv .tests) (at-test .test .ensures);
     }
 
 same-length : tie.Need-same-length Inv-loop μ-loop
@@ -169,7 +172,7 @@ same-length c =
 same-length-2 : tie.Need-same-length-2 Inv-loop μ-loop
 same-length-2 c =
     let s : tie.Start Inv-loop μ-loop = search in
-    Testing.tally-long _ _ _ _ _ (c .before .loop .inv .tests .counted) ∙ sym (Testing.tally-long _ _ _ _ _ (s .pre .1 .1 .1))
+    Testing.tally-long _ _ _ _ _ _ (c .before .loop .inv .tests .counted) ∙ sym (Testing.tally-long _ _ _ _ _ _ (s .pre .1 .1 .1))
 
 returns : tie.Need-returns Inv-loop μ-loop
 unfolding start
