@@ -29,7 +29,12 @@ fn random_shape(rng: &mut Random) -> (u32, u32) {
         let odd = [0, 1, 2, 3, 4, 5, 8, 16, 17, 64, 256, u32::MAX, 1 << 16, 8 + (1 << 31)];
         return (rng.pick(&odd), rng.pick(&odd));
     }
-    (rng.pick(&[1, 1, 2, 4]), if rng.one_in(60) { 16 } else { rng.pick(&[4, 8]) })
+    (rng.pick(&[1, 1, 2, 4]), rng.pick(&[4, 8, 16]))
+}
+
+/// The starts of all tables; none for a shape that is not listed.
+fn starts_of(w: u32, s: u32) -> usize {
+    if reference::listed(w, s) { (64 * w / s) as usize * ((1 << s) + 1) } else { 0 }
 }
 
 /// Codes near a centre, equal to the first one, or anywhere.
@@ -127,7 +132,7 @@ fn random_call(rng: &mut Random) -> Call {
     let centre = words(width, rng);
     let codes = random_codes(n, width, &centre, rng);
     let stars = random_stars(n, rng);
-    let starts = vec![STALE; if tables > 0 { about(tables * ((1 << s) + 1), rng) } else { 0 }];
+    let starts = vec![STALE; about(starts_of(w, s), rng)];
     let ids = vec![STALE; about(tables * n, rng)];
     let query = random_query(&codes, &centre, rng);
     let q = 64 * width as u32;
@@ -259,7 +264,7 @@ fn wild(rng: &mut Random) -> Result<u32, String> {
         let (across, up) = (offsets(rng), offsets(rng));
         return run_sky(rng.one_in(2), &across, &up);
     }
-    let (w, s) = if rng.one_in(3) { (any_number(rng), any_number(rng)) } else { (rng.pick(&[1, 2, 4]), rng.pick(&[4, 8])) };
+    let (w, s) = if rng.one_in(3) { (any_number(rng), any_number(rng)) } else { (rng.pick(&[1, 2, 4]), rng.pick(&[4, 8, 16])) };
     let stars = numbers(70, rng);
     let width = w as usize % 5;
     let codes = if rng.one_in(4) { some_words(300, rng) } else { words(stars.len() * width, rng) };
@@ -267,7 +272,8 @@ fn wild(rng: &mut Random) -> Result<u32, String> {
     let lists = Lists { marks: some_words(6, rng), entries: numbers(80, rng), distances: numbers(80, rng) };
     let (number, gap, which) = (any_number(rng), any_number(rng), rng.below(8));
     let small = |len: u64, rng: &mut Random| (0..len).map(|_| if rng.one_in(50) { rng.next() as u32 } else { rng.below(8) as u32 }).collect::<Vec<u32>>();
-    let (starts_len, ids_len) = (rng.below(9100), rng.below(4600));
+    let needed = if rng.one_in(4) { 0 } else { starts_of(w, s) as u64 };
+    let (starts_len, ids_len) = (needed + rng.below(900), rng.below(4600));
     let (starts, ids) = (small(starts_len, rng), small(ids_len, rng));
     run_call(which, &Call { w, s, stars, codes, starts, ids, query, number, gap, lists })
 }

@@ -11,10 +11,10 @@ use lib.Dec.{ltb}
 use lib.ListN.{length, getD, length-append, List·getD-append}
 use lib.Seq.{getD-at}
 use borrow.Author.Tests.{eq-eqb, ne-eqb, lt-ltb, le-ltb}
-use Rattle.theory.specs.Lists.{sum, cat, upto, count, any, has}
+use Rattle.theory.specs.Lists.{sum, firstFrom, cat, upto, count, any, has}
 use Rattle.theory.proofs.Tests.{lt-or-le, eq-or-ne, both-ways, ltb-suc, oneIf, oneIf-le}
 use Rattle.theory.proofs.Sums.{sum-cong}
-use Rattle.theory.proofs.Lists.{cat-suc, length-cat, cat-cong, any-one, any-none, any-cat-yes, any-cat-at, has-append, has-one, has-none}
+use Rattle.theory.proofs.Lists.{first-before, cat-suc, length-cat, cat-cong, any-one, any-none, any-cat-yes, any-cat-at, has-append, has-one, has-none}
 
 module _ {A : Type 0} where
   -- x where the test holds, or nothing
@@ -89,6 +89,14 @@ upto-gap p a (suc b) h f =
 
 pub upto-never : (p : ℕ → Bool) (n : ℕ) → ((i : ℕ) → i < n → p i ≡ false) → upto p n ≡ []
 upto-never p n h = upto-gap p 0 n (omega arith) (λ i _ l. h i l) ∙ upto-zero p
+
+-- from one that passes to the next: the list is empty up to the first, and one longer up to each next one
+pub upto-first : (p : ℕ → Bool) (n b : ℕ) → b ≤ firstFrom p 0 n → upto p b ≡ []
+upto-first p n b h = upto-never p b (λ i l. first-before p n 0 i (omega arith) (omega arith))
+
+pub upto-next : (p : ℕ → Bool) (n e b : ℕ) → p e ≡ true → e < b → b ≤ firstFrom p (e + 1) n → upto p b ≡ upto p e ++ e ∷ []
+upto-next p n e b t l h =
+    upto-gap p (suc e) b l (λ i a k. first-before p n (e + 1) i (omega arith) (omega arith)) ∙ upto-suc p e ∙ rw t
 
 pub count-never : (p : ℕ → Bool) (n : ℕ) → ((i : ℕ) → i < n → p i ≡ false) → count p n ≡ 0
 count-never p n h = ap length (upto-never p n h)

@@ -1,14 +1,15 @@
--- The binary digits of a number: of `or`, of `and`, of a power of two; numbers with the same digits are equal; the lowest digit that is 1. Assumes nothing.
+-- The binary digits of a number: of `or`, of `and`, of a part, of a power of two; numbers with the same digits are equal; the lowest digit that is 1. Assumes nothing.
 use mathlib.Core.Path.{_≡_, refl, sym, ap, ap₂, _∙_}
-use mathlib.Core.Logic.{⊎-elim}
+use mathlib.Core.Logic.{_⊎_, inl, inr, ⊎-elim}
 use Prim.Native.Nat.{ℕ, zero, suc, _+_, _-_, _*_, _/_, _%_, _^_, _≤_, _<_, max, min}
 use native.Mathlib.Nat.{div-eq-of-lt, mod-eq-of-lt, max-le, one-mul, mul-mod-left, pow-suc}
 use native.Mathlib.Numerals.{one-add}
 use native.Mathlib.Omega.{arith}
+use lib.Arith.{bin-ind}
 use lib.Dec.{eqb}
-use lib.Bits.{bitOr, or-shr, or-step, bitAnd, and-shr, and-step}
+use lib.Bits.{bitOr, or-shr, or-step, bitAnd, and-shr, and-step, shifted-half, shifted-even}
 use lib.Count.{trailingZeros, under}
-use lib.Pow.{pow-add, pow-lt, pow-mono, shl-shr, shr-shr, low, mod-pow-add}
+use lib.Pow.{pow-add, pow-lt, pow-mono, shl-shr, shr-shr, low, mod-pow-add, field, mod-mod-pow}
 use borrow.Author.Tests.{eq-eqb, ne-eqb}
 use Rattle.theory.proofs.Tests.{eq-or-ne, lt-or-le, oneIf}
 
@@ -30,6 +31,14 @@ pub digit-and : (x y k : ℕ) → digit (bitAnd x y) k ≡ min (digit x k) (digi
 digit-and x y k =
     ap (λ (z : ℕ). z % 2) (and-shr x y k ∙ and-step (x / 2 ^ k) (y / 2 ^ k))
     ∙ omega arith
+
+-- a digit below place t is a digit of what is below t
+pub digit-part : (x t p : ℕ) → p < t → digit (x % 2 ^ t) p ≡ digit x p
+digit-part x t p l =
+    let j = t - suc p in
+    let e : t ≡ suc j + p = omega arith in
+    let f : suc j ≡ j + 1 = omega arith in
+    ap (λ (n : ℕ). digit (x % 2 ^ n) p) e ∙ ap (λ (n : ℕ). n % 2) (field x (suc j) p ∙ ap (λ (n : ℕ). x / 2 ^ p % 2 ^ n) f) ∙ mod-mod-pow (x / 2 ^ p) j 1
 
 -- the one digit of 2 ^ i
 pub digit-power : (i j : ℕ) → digit (2 ^ i) j ≡ oneIf (eqb j i)
@@ -104,3 +113,17 @@ lowest (suc w) x p l = go (x % 2) refl (λ e. lowest w (x / 2) (omega arith) (om
 -- what is left without it is of the number
 pub still-set : (x k : ℕ) → digit (bitAnd x (x - 1)) k ≡ 1 → digit x k ≡ 1
 still-set x k e = omega (arith, digit-and x (x - 1) k)
+
+-- a number other than 0 is an odd one, shifted up by its trailing zeros
+pub odd-part : (x : ℕ) → 0 < x → (b : ℕ) × (t : ℕ) × (x ≡ (b * 2 + 1) * 2 ^ t)
+odd-part = bin-ind (λ (x : ℕ). 0 < x → (b : ℕ) × (t : ℕ) × (x ≡ (b * 2 + 1) * 2 ^ t)) (λ h. absurd (omega arith)) (λ n ih h. go n ih h (lt-or-le 0 (n % 2)))
+  where
+    go : (n : ℕ) → (0 < n / 2 → (b : ℕ) × (t : ℕ) × (n / 2 ≡ (b * 2 + 1) * 2 ^ t)) → 0 < n → (0 < n % 2) ⊎ (n % 2 ≤ 0) → (b : ℕ) × (t : ℕ) × (n ≡ (b * 2 + 1) * 2 ^ t)
+    go n ih h (inl l) = (n / 2, 0, omega arith)
+    go n ih h (inr g) = let (b, t, e) = ih (omega arith) in (b, suc t, omega (arith, ap (λ (q : ℕ). (b * 2 + 1) * q) (pow-suc 2 t)))
+
+pub trailing-odd : (w b t : ℕ) → t < w → trailingZeros w ((b * 2 + 1) * 2 ^ t) ≡ t
+unfolding trailingZeros
+trailing-odd zero b t h = absurd (omega arith)
+trailing-odd (suc w) b zero h = let odd : (b * 2 + 1) * 2 ^ 0 % 2 ≡ 1 = omega arith in rw odd
+trailing-odd (suc w) b (suc t) h = rw (shifted-even, shifted-half) (ap suc (trailing-odd w b t (omega arith)))

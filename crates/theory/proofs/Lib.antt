@@ -1,4 +1,4 @@
--- Laws of tests and of the list tools; order and stable placement; numbers put together from bits; the numbers of a few ones, and the steps that open buckets by them; and statements made of equations.
+-- Laws of tests and of the list tools; order and stable placement; numbers put together from bits; the ones under a mask; the numbers of a few ones, and the steps that open buckets by them; and statements made of equations.
 pub mod Tests
 pub mod Sums
 pub mod Lists
@@ -12,6 +12,7 @@ pub mod Placing
 pub mod Digits
 pub mod Numbers
 pub mod Xor
+pub mod Under
 pub mod Masks
 pub mod Pigeon
 pub mod Radii

@@ -43,6 +43,23 @@ unfolding firstFrom
 first-ge p i zero = le-refl i
 first-ge p i (suc n) = ⊎-elim (λ (e : p i ≡ true). rw e (le-refl i)) (λ (e : p i ≡ false). rw e (omega (arith, first-ge p (suc i) n))) (either (p i))
 
+-- none before the first passes; and it passes itself, if it is not past the last
+pub first-before : (p : ℕ → Bool) (n i j : ℕ) → i ≤ j → j < firstFrom p i n → p j ≡ false
+unfolding firstFrom
+first-before p zero i j a b = absurd (omega arith)
+first-before p (suc n) i j a b =
+    ⊎-elim (λ (e : p i ≡ true). let l : j < i = rw e at b in absurd (omega arith))
+    (λ (e : p i ≡ false).
+    let l : j < firstFrom p (suc i) n = rw e at b in
+    ⊎-elim (λ (here : j ≡ i). ap p here ∙ e) (λ (ne : j ≡ i → ⊥). first-before p n (suc i) j (omega arith) l) (eq-or-ne j i)) (either (p i))
+
+pub first-passes : (p : ℕ → Bool) (n i : ℕ) → firstFrom p i n < i + n → p (firstFrom p i n) ≡ true
+unfolding firstFrom
+first-passes p zero i h = absurd (omega arith)
+first-passes p (suc n) i h =
+    ⊎-elim (λ (e : p i ≡ true). rw e e)
+    (λ (e : p i ≡ false). let l : firstFrom p (suc i) n < i + suc n = rw e at h in rw e (first-passes p n (suc i) (omega arith))) (either (p i))
+
 -- none before R passes: it is no earlier than R
 pub first-past : (p : ℕ → Bool) (n i R : ℕ) → R ≤ i + n → ((j : ℕ) → i ≤ j → j < R → p j ≡ false) → R ≤ firstFrom p i n
 unfolding firstFrom

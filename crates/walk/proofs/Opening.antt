@@ -1,18 +1,19 @@
 -- Buckets are opened in order, up to the first bad one. Assumes nothing.
 use mathlib.Core.Path.{_≡_, refl, sym, ap, _∙_}
-use mathlib.Core.Bool.{Bool, true, false, cond, or-false, or-assoc}
+use mathlib.Core.Bool.{true, false, cond, or-false, or-assoc}
 use mathlib.Core.List.{List, [], _∷_, _++_, map, map-append}
-use Prim.Native.Nat.{ℕ, suc, _+_, _≤_}
+use Prim.Native.Nat.{ℕ, suc, _+_, _≤_, _<_}
 use native.Mathlib.Nat.{add-zero}
 use native.Mathlib.Decide.{le-ind}
 use native.Mathlib.Omega.{arith}
-use lib.Bits.{bitXor}
+use lib.Bits.{bitAnd, bitXor}
 use lib.Count.{ones}
 use lib.Dec.{eqb}
 use lib.ListN.{length, length-append, length-map}
-use Rattle.theory.specs.Lists.{cat, any, has, upto}
+use Rattle.theory.specs.Lists.{firstFrom, any, has, upto}
 use Rattle.theory.proofs.Lists.{any-append, any-one, any-none}
-use Rattle.theory.proofs.Counting.{upto-suc, count-le}
+use Rattle.theory.proofs.Counting.{only, upto-suc, upto-cong, upto-first, upto-next, count-le}
+use Rattle.masks.specs.Masks.{hasOnes}
 use Rattle.scope.specs.declared.Refusal.{Refusal}
 use Rattle.scope.specs.declared.Refusal.the-variants.{BadBucket}
 use Rattle.scope.specs.Tables.{Index, n, bucket, bad}
@@ -115,30 +116,31 @@ module _ (ask : Question) (w : Walk) (marks : List ℕ) where
   opening-bad l k r marks′ tally′ f h c =
       record { met = c ∙ sym (met-stays (ask .index) l k f (sym (h .met) ∙ c)); clear = λ e. not-both (sym c ∙ e) }
 
--- ---- the buckets of one step, by masks
+-- ---- the buckets of one step, by their exclusive-or
 
 module _ (z r sub : ℕ) where
-  pub around-none : around z r sub 0 ≡ []
-  unfolding cat
-  around-none = refl
-
-  pub around-suc : (k : ℕ) → around z r sub (suc k) ≡ around z r sub k ++ cond (eqb (ones k) r) ((z, bitXor sub k) ∷ []) []
-  around-suc k =
-      ap (map at) (upto-suc (λ e. eqb (ones e) r) k) ∙ map-append at (upto (λ e. eqb (ones e) r) k) _
-      ∙ ap (λ (l : List (ℕ × ℕ)). around z r sub k ++ l) (go (eqb (ones k) r))
-    where
-      at : ℕ → ℕ × ℕ
-      at e = (z, bitXor sub e)
-
-      go : (b : Bool) → map at (cond b (k ∷ []) []) ≡ cond b (at k ∷ []) []
-      go true = refl
-      go false = refl
-
   pub around-few : (k : ℕ) → length (around z r sub k) ≤ k
   around-few k = rw length-map (count-le (λ e. eqb (ones e) r) k)
 
-  -- a bad bucket among the first k masks is the first bad of them all
+  around-suc : (k : ℕ) → around z r sub (suc k) ≡ around z r sub k ++ map (λ e. (z, bitXor sub e)) (only (eqb (ones k) r) k)
+  around-suc k = ap (map (λ e. (z, bitXor sub e))) (upto-suc (λ e. eqb (ones e) r) k) ∙ map-append _ (upto (λ e. eqb (ones e) r) k) _
+
+  -- a bad bucket among those below k is the first bad of them all
   pub around-bad : (ask : Question) (w o : Walk) (marks marks′ tally′ : List ℕ) (f : Refusal) (k m : ℕ) → k ≤ m
       → Opening ask (around z r sub k) w o marks marks′ tally′ → o .met ≡ Refused f → Opening ask (around z r sub m) w o marks marks′ tally′
   around-bad ask w o marks marks′ tally′ f k m l h e =
       le-ind (λ (j : ℕ). Opening ask (around z r sub j) w o marks marks′ tally′) h (λ j _ g. rw around-suc (opening-bad ask w marks _ _ o marks′ tally′ f g e)) m l
+
+-- with every bit of a bucket's number under the mask: none up to the first number with r ones there, and one more up to each next one
+module _ (z under r sub buckets : ℕ) (all : (e : ℕ) → e < buckets → bitAnd e under ≡ e) where
+  around-is : (k : ℕ) → k ≤ buckets → around z r sub k ≡ map (λ e. (z, bitXor sub e)) (upto (hasOnes under r) k)
+  around-is k l = ap (map (λ e. (z, bitXor sub e))) (upto-cong (λ e. eqb (ones e) r) (hasOnes under r) k (λ e h. ap (λ (n : ℕ). eqb (ones n) r) (sym (all e (omega arith)))))
+
+  pub around-first : (n k : ℕ) → k ≤ buckets → k ≤ firstFrom (hasOnes under r) 0 n → around z r sub k ≡ []
+  around-first n k l h = around-is k l ∙ ap (map (λ e. (z, bitXor sub e))) (upto-first (hasOnes under r) n k h)
+
+  pub around-next : (n e k : ℕ) → hasOnes under r e ≡ true → e < k → k ≤ buckets → k ≤ firstFrom (hasOnes under r) (e + 1) n
+      → around z r sub k ≡ around z r sub e ++ (z, bitXor sub e) ∷ []
+  around-next n e k t a l h =
+      around-is k l ∙ ap (map (λ e. (z, bitXor sub e))) (upto-next (hasOnes under r) n e k t a h) ∙ map-append _ (upto (hasOnes under r) e) _
+      ∙ ap (λ (b : List (ℕ × ℕ)). b ++ (z, bitXor sub e) ∷ []) (sym (around-is e (omega arith)))

@@ -1,10 +1,8 @@
 // The walk: the steps that open buckets, in order, and test the entries that these list. Steps serve the searches only.
 ghost use mathlib.Core.Path.{_≡_};
-ghost use mathlib.Core.Bool.{true, false, not, _||_, cond};
+ghost use mathlib.Core.Bool.{true, false, not, _||_};
 ghost use mathlib.Core.List.{[], _∷_};
 ghost use Prim.Native.Nat.{ℕ, _+_, _*_, _≤_, _<_};
-ghost use lib.Bits.{bitXor};
-ghost use lib.Count.{ones};
 ghost use lib.Dec.{eqb, ltb, leb};
 ghost use lib.ListN.{length, getD};
 ghost use Rattle.theory.specs.Lists.{has};
@@ -281,44 +279,6 @@ impl Walk {
         w.test_all(shape, stars, codes, starts, ids, query, z, v, marks, tally)
     }
 
-    // Opens the bucket of table z whose exclusive-or with sub is the mask, if that has r ones.
-    fn open_mask(
-        self,
-        shape: Shape,
-        stars: &[u32],
-        codes: &[u64],
-        starts: &[u32],
-        ids: &[u32],
-        query: &[u64],
-        z: usize,
-        r: u32,
-        sub: usize,
-        mask: usize,
-        marks: &mut [u64],
-        tally: &mut [u32],
-    ) -> Walk
-        requires { ⌜ Asked (asks shape (now stars) (now codes) (now starts) (now ids) (now query)) ⌝ }
-        requires { ⌜ (z < m shape) × (sub < size shape z) × (mask < size shape z) × (self .met ≡ Met.Clear) × (self .opened .0 < 16842752) ⌝ }
-        requires { ⌜ Counted (λ (j : ℕ). getD (now stars) j 0) (distanceFrom (shape .w) (now codes) (now query)) (markWords (length (now stars))) self (now marks) (now tally) ⌝ }
-        ensures { λ o. ⌜ Opening (asks shape (now (stars .entry)) (now (codes .entry)) (now (starts .entry)) (now (ids .entry)) (now (query .entry))) (cond (eqb (ones mask) r) ((z, bitXor sub mask) ∷ []) []) self o (now (marks .entry)) (now (marks .exit)) (now (tally .exit)) ⌝ }
-    {
-        if usize::count_ones(mask) != r {
-            return self;
-        }
-        self.open(
-            shape,
-            stars,
-            codes,
-            starts,
-            ids,
-            query,
-            z,
-            sub ^ mask,
-            marks,
-            tally,
-        )
-    }
-
     // Opens the buckets of table z that differ from the query's substring in r bits, ascending by the exclusive-or, up to the first bad one.
     fn open_all(
         self,
@@ -339,11 +299,13 @@ impl Walk {
         ensures { λ o. ⌜ Opening (asks shape (now (stars .entry)) (now (codes .entry)) (now (starts .entry)) (now (ids .entry)) (now (query .entry))) (around z r (substring (firstBit shape z) (len shape z) (now (query .entry))) (size shape z)) self o (now (marks .entry)) (now (marks .exit)) (now (tally .exit)) ⌝ }
     {
         let sub = query_substring(shape, query, z);
-        let masks = shapes::buckets(shape, z);
+        let buckets = shapes::buckets(shape, z);
+        // every bit counts
+        let under = buckets - 1;
         let mut w = self;
-        let mut mask = 0;
-        while mask < masks {
-            w = w.open_mask(
+        let mut e = masks::first(under, r);
+        while e < buckets {
+            w = w.open(
                 shape,
                 stars,
                 codes,
@@ -351,9 +313,7 @@ impl Walk {
                 ids,
                 query,
                 z,
-                r,
-                sub,
-                mask,
+                sub ^ e,
                 marks,
                 tally,
             );
@@ -361,7 +321,7 @@ impl Walk {
             if let Met::Refused(_) = met {
                 return w;
             }
-            mask += 1;
+            e = masks::next(under, r, e);
         }
         w
     }

@@ -1,0 +1,2 @@
+-- How many ones a number has under a mask.
+pub mod Masks
