@@ -17,24 +17,33 @@
 extern "C" {
 #endif
 
-/* What a function returns. Refusals 1 to 5 and 8 to 10 change no list. */
+/* What a function returns. Refusals 1 to 5 and 8 to 11 change no list. */
 enum tirnavoy_refusal {
     TIRNAVOY_NONE = 0,
     TIRNAVOY_SHAPE = 1,      /* w is not 1, 2 or 4, or s is not 4, 8 or 16 */
     TIRNAVOY_CATALOGUE = 2,  /* more than 65,536 stars, or the code list is not n * w long */
     TIRNAVOY_TABLES = 3,     /* starts or ids too short */
-    TIRNAVOY_QUERY = 4,      /* the query is not w words long; r, t, g or the step is above q = 64 * w */
+    TIRNAVOY_QUERY = 4,      /* the query is not w words long, or the queries no whole number of codes; r, t, g or the step is above q = 64 * w */
     TIRNAVOY_ROOM = 5,       /* too few mark words; nearest: an answer list shorter than the smaller of k and n */
     TIRNAVOY_TOO_MANY = 6,   /* within: more answers than the shorter answer list holds */
     TIRNAVOY_BAD_BUCKET = 7, /* the search met a bucket that the builder cannot have written */
     TIRNAVOY_OFFSETS = 8,    /* across and up lists of unequal length, or longer than 4,096 */
     TIRNAVOY_NOT_FINITE = 9, /* an angle is infinite or not a number */
-    TIRNAVOY_OUTSIDE = 10    /* an angle lies outside the field, -4 <= angle < 4 degrees */
+    TIRNAVOY_OUTSIDE = 10,   /* an angle lies outside the field, -4 <= angle < 4 degrees */
+    TIRNAVOY_BATCH = 11      /* more than 256 queries, or outcomes or records too short */
 };
 
 enum tirnavoy_verdict_kind { TIRNAVOY_NO_FIELD = 0, TIRNAVOY_UNSURE = 1, TIRNAVOY_MATCH = 2 };
 
-/* ---- sizes: constant expressions where w, s and n are; an argument is read more than once */
+/* One answer of a batch. */
+struct tirnavoy_answer {
+    uint32_t entry, star, distance;
+};
+
+/* The numbers of one query's outcome in a batch: query j's opened count is outcomes[j * TIRNAVOY_OUTCOME_NUMBERS + TIRNAVOY_OUTCOME_OPENED]. */
+enum tirnavoy_outcome { TIRNAVOY_OUTCOME_REFUSAL, TIRNAVOY_OUTCOME_ANSWERS, TIRNAVOY_OUTCOME_OPENED, TIRNAVOY_OUTCOME_TESTED, TIRNAVOY_OUTCOME_NUMBERS };
+
+/* ---- sizes: constant expressions where their arguments are; an argument is read more than once */
 
 /* 1 where w and s are listed, w being 1, 2 or 4 and s being 4, 8 or 16; otherwise 0, and calls with them return TIRNAVOY_SHAPE. #if can ask it. */
 #define TIRNAVOY_LISTED(w, s) (((w) == 1 || (w) == 2 || (w) == 4) && ((s) == 4 || (s) == 8 || (s) == 16))
@@ -48,6 +57,10 @@ enum tirnavoy_verdict_kind { TIRNAVOY_NO_FIELD = 0, TIRNAVOY_UNSURE = 1, TIRNAVO
 
 /* how many mark words a search over n entries is lent */
 #define TIRNAVOY_MARK_WORDS(n) (((size_t)(n) + 63) / 64)
+
+/* how many numbers the outcomes of a batch hold, and how many records its answers */
+#define TIRNAVOY_OUTCOMES_LENGTH(queries) ((size_t)TIRNAVOY_OUTCOME_NUMBERS * (queries))
+#define TIRNAVOY_RECORDS_LENGTH(queries, k) ((size_t)(queries) * (k))
 
 /* ---- tables */
 
@@ -84,6 +97,13 @@ uint32_t tirnavoy_within(uint32_t w, uint32_t s, const uint32_t *stars, size_t s
 uint32_t tirnavoy_verdict(uint32_t w, uint32_t s, const uint32_t *stars, size_t stars_len, const uint64_t *codes, size_t codes_len, const uint32_t *starts, size_t starts_len,
                           const uint32_t *ids, size_t ids_len, const uint64_t *query, size_t query_len, uint32_t t, uint32_t g, uint64_t *marks, size_t marks_len, uint32_t *verdict,
                           uint32_t *star, uint32_t *other, uint32_t *distance, uint32_t *farther, uint32_t *opened, uint32_t *tested, uint32_t *table, uint32_t *bucket);
+
+/* The k nearest entries for each of up to 256 queries, codes of w words one after the other. Query j's part is what tirnavoy_nearest finds for it alone: in records[j * k] to
+ * records[j * k + k - 1] its answers and then records of zeros, in the outcomes its refusal (0, or 7), its number of answers and its two counts. A query refused 7 has zeros but the
+ * 7, in its own part only. Later places of both lists are unchanged. Refusals 1, 2, 3, 4, 5 (marks), 11. The call takes some 520 KiB of stack. */
+uint32_t tirnavoy_batch(uint32_t w, uint32_t s, const uint32_t *stars, size_t stars_len, const uint64_t *codes, size_t codes_len, const uint32_t *starts, size_t starts_len,
+                        const uint32_t *ids, size_t ids_len, const uint64_t *queries, size_t queries_len, uint32_t k, uint64_t *marks, size_t marks_len, uint32_t *outcomes,
+                        size_t outcomes_len, struct tirnavoy_answer *records, size_t records_len);
 
 /* The blackboard's number: *buckets becomes how many buckets are open after the step, 0 to q; 0 where refused. Refusals 1, 4. */
 uint32_t tirnavoy_blackboard(uint32_t w, uint32_t s, uint32_t step, uint32_t *buckets);

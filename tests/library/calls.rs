@@ -1,6 +1,6 @@
 //! One call to the library and the same call to `reference.rs`: every result, count and list compared, with guard values around every list.
 use crate::library;
-use crate::reference::{self, Index, Lists, Report};
+use crate::reference::{self, Index, Lists, Report, Results};
 use std::fmt::Debug;
 
 /// Everything that a call may be handed.
@@ -170,6 +170,28 @@ pub fn run_verdict(c: &Call) -> Result<u32, String> {
     let expected = [theirs.verdict, star, other, distance, farther, opened, tested, table, bucket];
     compare("verdict: number and outs", (number, got), (theirs.report.refusal.number, expected))?;
     marks.holds("verdict: marks", &marks_then)?;
+    l.unchanged(c)?;
+    Ok(number)
+}
+
+/// A batch of the call's catalogue, with its number as k.
+pub fn run_batch(c: &Call, queries: &[u64], results: &Results) -> Result<u32, String> {
+    let mut then = results.clone();
+    let number = reference::batch(&c.index(), queries, c.number, &mut then);
+    let mut l = Lent::new(c);
+    let (mut lent, mut marks) = (Guarded::new(queries, GUARD_WORD), Guarded::new(&results.marks, GUARD_WORD));
+    let (mut outcomes, mut records) = (Guarded::new(&results.outcomes, GUARD), Guarded::new(&results.records, [GUARD; 3]));
+    let got = unsafe {
+        library::tirnavoy_batch(
+            c.w, c.s, l.stars.at(), c.stars.len(), l.codes.at(), c.codes.len(), l.starts.at(), c.starts.len(), l.ids.at(), c.ids.len(),
+            lent.at(), queries.len(), c.number, marks.at(), results.marks.len(), outcomes.at(), results.outcomes.len(), records.at(), results.records.len(),
+        )
+    };
+    compare("batch", got, number)?;
+    marks.holds("batch: marks", &then.marks)?;
+    outcomes.holds("batch: outcomes", &then.outcomes)?;
+    records.holds("batch: records", &then.records)?;
+    lent.holds("batch: queries", queries)?;
     l.unchanged(c)?;
     Ok(number)
 }

@@ -8,13 +8,11 @@ mod library;
 mod makers;
 mod random;
 mod reference;
+use makers::Refusals;
 use random::Random;
 
-/// How many calls ended with each number 0 to 10.
-type Refusals = [u64; 11];
-
 fn random(calls: u64, seed: u64) -> Result<Refusals, String> {
-    let (mut rng, mut refusals) = (Random::seeded(seed), [0; 11]);
+    let (mut rng, mut refusals) = (Random::seeded(seed), Refusals::default());
     for call in 0..calls {
         let number = makers::any_call(&mut rng).map_err(|error| format!("{error}\nseed {seed}, call {call}"))?;
         refusals[number as usize] += 1;
@@ -23,13 +21,13 @@ fn random(calls: u64, seed: u64) -> Result<Refusals, String> {
 }
 
 fn large(seed: u64) -> Result<Refusals, String> {
-    let (mut rng, mut refusals) = (Random::seeded(seed), [0; 11]);
+    let (mut rng, mut refusals) = (Random::seeded(seed), Refusals::default());
     makers::large(&mut rng, &mut refusals).map_err(|error| format!("{error}\nseed {seed}"))?;
     Ok(refusals)
 }
 
 fn bytes(files: &[String]) -> Result<Refusals, String> {
-    let mut refusals = [0; 11];
+    let mut refusals = Refusals::default();
     for file in files {
         let bytes = std::fs::read(file).map_err(|error| format!("{file}: {error}"))?;
         let number = makers::from_bytes(&bytes).map_err(|error| format!("{error}\nbytes of {file}"))?;
@@ -52,7 +50,7 @@ fn main() {
     };
     match outcome {
         Ok(refusals) => {
-            println!("{what}; by number 0 to 10: {refusals:?}");
+            println!("{what}; by number 0 to 11: {refusals:?}");
             println!("{} passed, 0 failed", refusals.iter().sum::<u64>());
         }
         Err(error) => {

@@ -99,6 +99,49 @@ static void verdicts(void) {
     verdict(__LINE__, 4, 3, match);
 }
 
+enum { ASKED = 3, WANTED = 3, OUTCOMES = TIRNAVOY_OUTCOMES_LENGTH(ASKED), RECORDS = TIRNAVOY_RECORDS_LENGTH(ASKED, WANTED) };
+static uint32_t outcomes[OUTCOMES + 1];
+static struct tirnavoy_answer records[RECORDS + 1];
+
+/* a batch over catalogue A: its number and every place of its lists, with one place behind each */
+static void batch(int line, const uint64_t *queries, size_t count, uint32_t k, size_t outcomes_len, size_t records_len, uint32_t refusal, const uint32_t *told, const uint32_t *answers) {
+    for (int p = 0; p <= OUTCOMES; p++) outcomes[p] = UNTOUCHED;
+    for (int p = 0; p <= RECORDS; p++) records[p].entry = records[p].star = records[p].distance = UNTOUCHED;
+    marks[0] = UNTOUCHED;
+    expect(line, tirnavoy_batch(W, S, stars, N, codes, N, starts, STARTS, ids, IDS, queries, count, k, marks, MARKS, outcomes, outcomes_len, records, records_len), refusal);
+    for (int p = 0; p <= OUTCOMES; p++) expect(line, outcomes[p], told[p]);
+    for (int p = 0; p <= RECORDS; p++) {
+        expect(line, records[p].entry, answers[3 * p]);
+        expect(line, records[p].star, answers[3 * p + 1]);
+        expect(line, records[p].distance, answers[3 * p + 2]);
+    }
+    expect(line, marks[0], refusal == TIRNAVOY_NONE ? 0 : UNTOUCHED);
+}
+
+/* 02, L3: the queries 3 (as P2 and P3), all ones, and 0xFF, each as if it were alone */
+static void batches(void) {
+    static const uint64_t queries[257] = {3, 0xFFFFFFFFFFFFFFFFu, 0xFF};
+    static const uint32_t untouched[] = {77, 77, 77, 77, 77, 77, 77, 77, 77, 77, 77, 77, 77};
+    static const uint32_t unwritten[] = {77, 77, 77, 77, 77, 77, 77, 77, 77, 77, 77, 77, 77, 77, 77, 77, 77, 77, 77, 77, 77, 77, 77, 77, 77, 77, 77, 77, 77, 77};
+    const uint32_t two[] = {0, 2, 3, 3, 0, 2, 1984, 4, 0, 2, 8, 4, 77};
+    const uint32_t pairs[] = {1, 10, 1, 0, 10, 2, 3, 30, 0, 2, 20, 56, 2, 20, 0, 1, 10, 7, 77, 77, 77, 77, 77, 77, 77, 77, 77, 77, 77, 77};
+    const uint32_t spoilt[] = {7, 0, 0, 0, 0, 1, 1, 2, 0, 1, 1, 2, 77};
+    const uint32_t others[] = {0, 0, 0, 3, 30, 0, 2, 20, 0, 77, 77, 77, 77, 77, 77, 77, 77, 77, 77, 77, 77, 77, 77, 77, 77, 77, 77, 77, 77, 77};
+    const uint32_t zeros[] = {0, 0, 0, 0, 0, 0, 0, 0, 0, 0, 0, 0, 77};
+    batch(__LINE__, queries, ASKED, 2, OUTCOMES, RECORDS, TIRNAVOY_NONE, two, pairs);
+    batch(__LINE__, queries, ASKED, 0, OUTCOMES, 0, TIRNAVOY_NONE, zeros, unwritten);
+    batch(__LINE__, queries, 0, 4294967295u, 0, 0, TIRNAVOY_NONE, untouched, unwritten);
+    batch(__LINE__, queries, ASKED, 4, OUTCOMES, RECORDS, TIRNAVOY_BATCH, untouched, unwritten);
+    batch(__LINE__, queries, ASKED, 2, OUTCOMES - 1, RECORDS, TIRNAVOY_BATCH, untouched, unwritten);
+    batch(__LINE__, queries, 1, 4294967295u, OUTCOMES, RECORDS, TIRNAVOY_BATCH, untouched, unwritten);
+    batch(__LINE__, queries, 257, 0, OUTCOMES, RECORDS, TIRNAVOY_BATCH, untouched, unwritten);
+    expect(__LINE__, tirnavoy_batch(W, S, stars, N, codes, N, starts, STARTS, ids, IDS, queries, 257, 9, marks, 0, outcomes, 0, records, 0), TIRNAVOY_ROOM);
+    expect(__LINE__, tirnavoy_batch(2, 16, stars, 0, codes, 0, starts, 0, ids, 0, queries, 3, 1, marks, 0, outcomes, 0, records, 0), TIRNAVOY_TABLES);
+    starts[4]++; /* bucket 3 of table 0, which only the first query opens at step 0 */
+    batch(__LINE__, queries, ASKED, 1, OUTCOMES, RECORDS, TIRNAVOY_NONE, spoilt, others);
+    starts[4]--;
+}
+
 /* the verdict on other catalogues, with the query 0 */
 static void exposures(int line, const uint32_t *shown, const uint64_t *shots, size_t n, uint32_t t, uint32_t g, const uint32_t *expected) {
     static const uint64_t nothing[W] = {0};
@@ -203,6 +246,7 @@ int main(void) {
     nearest();
     within();
     verdicts();
+    batches();
     two_exposures();
     blackboard();
     skies();

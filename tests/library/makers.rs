@@ -1,8 +1,11 @@
 //! Calls to compare: drawn over all shapes with every refusal in reach; of any numbers and lengths at all; at the border of the scope; or by a fuzzer's bytes.
 #![allow(dead_code)]
-use crate::calls::{run_blackboard, run_build, run_check, run_search, run_sky, run_verdict, Call};
+use crate::calls::{run_batch, run_blackboard, run_build, run_check, run_search, run_sky, run_verdict, Call};
 use crate::random::Random;
-use crate::reference::{self, Lists};
+use crate::reference::{self, Lists, Results};
+
+/// How many calls ended with each number 0 to 11.
+pub type Refusals = [u64; 12];
 
 const PER_RADIAN: f64 = 57.29577951308232;
 
@@ -183,6 +186,40 @@ fn any_blackboard(rng: &mut Random) -> Result<u32, String> {
     run_blackboard(w, s, if rng.one_in(20) { rng.next() as u32 } else { step })
 }
 
+/// How many queries a batch has: a table of students, none, or on both sides of 256 where that is quick.
+fn random_queries(call: &Call, rng: &mut Random) -> Vec<u64> {
+    let most = call.stars.len() < 20 && call.s < 16 && rng.one_in(8);
+    let count = if most { 254 + rng.below(5) } else { rng.pick(&[0, 1, 2, 3, 5, 9]) };
+    let entries = call.codes.chunks_exact(call.query.len().max(1));
+    let mut queries = Vec::new();
+    for _ in 0..count {
+        let at = rng.below(entries.len() as u64) as usize;
+        let near = entries.clone().nth(at).unwrap_or(&call.query);
+        queries.extend(flipped(near, rng.pick(&[0, 1, 3, 9]), rng));
+    }
+    if rng.one_in(40) {
+        queries.push(rng.next());
+    }
+    queries
+}
+
+/// The result lists of a batch, at, just below or above what is needed, but for a k that no list is long enough for.
+fn random_results(call: &Call, words_of_queries: usize, rng: &mut Random) -> Results {
+    let count = words_of_queries / call.query.len().max(1);
+    let records = about(count.saturating_mul(call.number as usize).min(3000), rng);
+    let outcomes = about(4 * count, rng);
+    Results { marks: call.lists.marks.clone(), outcomes: vec![STALE; outcomes], records: vec![[1, 2, 3]; records] }
+}
+
+fn any_batch(rng: &mut Random) -> Result<u32, String> {
+    let mut call = random_call(rng);
+    call.number = random_count(call.stars.len().min(12), rng);
+    let call = with_tables(call, rng);
+    let queries = random_queries(&call, rng);
+    let results = random_results(&call, queries.len(), rng);
+    run_batch(&call, &queries, &results).map_err(|error| format!("{error}\n{call:?}\n{queries:?}\n{results:?}"))
+}
+
 fn run_call(which: u64, call: &Call) -> Result<u32, String> {
     let outcome = match which % 8 {
         0 => run_build(call),
@@ -196,9 +233,10 @@ fn run_call(which: u64, call: &Call) -> Result<u32, String> {
 
 /// A random call of any exported function; gives the number that it ended with.
 pub fn any_call(rng: &mut Random) -> Result<u32, String> {
-    match rng.below(10) {
+    match rng.below(12) {
         0 => any_sky(rng),
         1 => any_blackboard(rng),
+        2 | 3 => any_batch(rng),
         which => {
             let call = random_call(rng);
             run_call(which, &with_tables(call, rng))
@@ -207,7 +245,7 @@ pub fn any_call(rng: &mut Random) -> Result<u32, String> {
 }
 
 /// Calls at the border of the scope: 65,536 and 65,537 entries.
-pub fn large(rng: &mut Random, refusals: &mut [u64; 11]) -> Result<(), String> {
+pub fn large(rng: &mut Random, refusals: &mut Refusals) -> Result<(), String> {
     for (w, s, n) in [(1u32, 16u32, 65536usize), (2, 16, 65536), (4, 8, 65536), (2, 16, 65537)] {
         let width = w as usize;
         let codes = words(n * width, rng);
@@ -229,6 +267,13 @@ pub fn large(rng: &mut Random, refusals: &mut [u64; 11]) -> Result<(), String> {
             call.number = r;
             met(run_search(&call, true)?);
         }
+        for (count, k, places) in [(256, 1, 256), (257, 1, 257), (2, 1024, 2048), (2, 1025, 2050), (1, 65536, 65536), (1, 65537, 65537), (1, u32::MAX, 10)] {
+            call.number = k;
+            let queries: Vec<u64> = (0..count).flat_map(|_| flipped(&call.query, 2, rng)).collect();
+            let results = Results { marks: words(1026, rng), outcomes: vec![9; 4 * count + 1], records: vec![[9; 3]; places] };
+            met(run_batch(&call, &queries, &results)?);
+        }
+        call.number = 20;
         met(run_verdict(&call)?);
         call.stars.fill(7);
         met(run_verdict(&call)?);
@@ -270,12 +315,19 @@ fn wild(rng: &mut Random) -> Result<u32, String> {
     let codes = if rng.one_in(4) { some_words(300, rng) } else { words(stars.len() * width, rng) };
     let query = if rng.one_in(4) { some_words(6, rng) } else { words(width, rng) };
     let lists = Lists { marks: some_words(6, rng), entries: numbers(80, rng), distances: numbers(80, rng) };
-    let (number, gap, which) = (any_number(rng), any_number(rng), rng.below(8));
+    let (number, gap, which) = (any_number(rng), any_number(rng), rng.below(10));
     let small = |len: u64, rng: &mut Random| (0..len).map(|_| if rng.one_in(50) { rng.next() as u32 } else { rng.below(8) as u32 }).collect::<Vec<u32>>();
     let needed = if rng.one_in(4) { 0 } else { starts_of(w, s) as u64 };
     let (starts_len, ids_len) = (needed + rng.below(900), rng.below(4600));
     let (starts, ids) = (small(starts_len, rng), small(ids_len, rng));
-    run_call(which, &Call { w, s, stars, codes, starts, ids, query, number, gap, lists })
+    let call = Call { w, s, stars, codes, starts, ids, query, number, gap, lists };
+    if which < 8 {
+        return run_call(which, &call);
+    }
+    let queries = if rng.one_in(2) { some_words(600, rng) } else { words(width * 3, rng) };
+    let records = numbers(90, rng).into_iter().map(|x| [x, 1, 2]).collect();
+    let results = Results { marks: call.lists.marks.clone(), outcomes: numbers(40, rng), records };
+    run_batch(&call, &queries, &results).map_err(|error| format!("{error}\n{call:?}\n{queries:?}\n{results:?}"))
 }
 
 /// The call that a fuzzer's bytes make: a drawn one or a wild one.

@@ -14,4 +14,5 @@ pub mod Tested
 pub mod Edges
 pub mod Locality
 pub mod Verdict
+pub mod Batches
 pub mod Corollaries

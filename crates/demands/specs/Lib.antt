@@ -5,3 +5,4 @@ pub mod Trust
 pub mod Radii
 pub mod Places
 pub mod Verdicts
+pub mod Batches

@@ -9,7 +9,7 @@ use Rattle.theory.specs.Lists.{cat, sum, any, same, firstFrom, ranked}
 use Rattle.scope.specs.declared.Shape.{Shape}
 use Rattle.scope.specs.declared.Unit.the-variants.{Degrees, Radians}
 use Rattle.scope.specs.Codes.{bit, distance, substring, codeOf}
-use Rattle.scope.specs.Shape.{q, listed, m, firstBit, len, size, startsBefore}
+use Rattle.scope.specs.Shape.{shape, q, listed, m, firstBit, len, size, startsBefore}
 use Rattle.scope.specs.Tables.{substringOf, builtStarts, builtIds, sound, start, idAt, bucket, badId, bad}
 use Rattle.scope.specs.Walk.{opens, opened, tested, near}
 use Rattle.scope.specs.Search.{nearestSteps, nearest, withinSteps, within}
@@ -17,9 +17,6 @@ use Rattle.scope.specs.Sky.{angleOf, given, finite, perRadian, degrees, 
 use Rattle.scope.specs.Refusals.{unless, lent, ofSky}
 use Rattle.scope.specs.Calls.{report, nearestAnswer, nearestEnd, withinAnswer, withinEnd, searchEnd, skyAnswer}
 use Rattle.scope.proofs.CatalogueA.{a, spoiled, ask, asked, shown}
-
-abbrev shape : ℕ → ℕ → Shape
-shape w s = record { w = w; s = s }
 
 -- ---- shapes: q, m, the first bit of the last substring, the buckets of a table, and all starts
 

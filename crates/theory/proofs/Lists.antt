@@ -315,6 +315,10 @@ module _ {A : Type 0} where
   pub drop-over : (l old : List A) (k : ℕ) → length l ≡ k → drop k (over l old) ≡ drop k old
   drop-over l old k e = drop-at l (drop (length l) old) k e ∙ ap (λ (n : ℕ). drop n old) e
 
+  -- written over once more, what stood between does not matter
+  pub over-again : (l m old : List A) → length l ≡ length m → over l (over m old) ≡ over l old
+  over-again l m old e = ap (λ (z : List A). l ++ z) (drop-over m old (length l) (sym e))
+
   pub length-over : (l old : List A) → length l ≤ length old → length (over l old) ≡ length old
   length-over l old h = length-append l (drop (length l) old) ∙ simp length-drop (omega arith)
 

@@ -1,12 +1,16 @@
 -- Each statement determines how a call ends: its result, and what stands behind each `&mut`. Assumes nothing.
+use mathlib.Core.Path.{refl}
 use mathlib.Core.List.{List, [], _∷_}
 use Prim.Native.Nat.{ℕ, zero, suc}
 use Rattle.theory.specs.Statements.{Determined}
+use Rattle.theory.specs.Statements.{DeterminedByHand}
 use Rattle.theory.proofs.Statements.{whole, kept}
+use Rattle.scope.specs.Batch.{BatchEnd}
 use Rattle.tirnavoy.proofs.tirnavoy_build
 use Rattle.tirnavoy.proofs.tirnavoy_check
 use Rattle.tirnavoy.proofs.tirnavoy_nearest
 use Rattle.tirnavoy.proofs.tirnavoy_within
+use Rattle.tirnavoy.proofs.tirnavoy_batch
 use Rattle.tirnavoy.proofs.tirnavoy_verdict
 use Rattle.tirnavoy.proofs.tirnavoy_blackboard
 use Rattle.tirnavoy.proofs.tirnavoy_sky_degrees
@@ -36,6 +40,13 @@ tirnavoy-nearest-determined κs a x y = whole (λ (e : Lists). (numbers 6 (e .0)
 
 pub tirnavoy-within-determined : Determined tirnavoy_within.ended tirnavoy_within.Reads.Post
 tirnavoy-within-determined κs a x y = whole (λ (e : Lists). (numbers 6 (e .0) .0, kept 8 (e .1, (e .2, (e .3, numbers 6 (e .0) .1)))))
+
+pub tirnavoy-batch-determined : DeterminedByHand tirnavoy_batch.ended (λ M 𝓤 H. tirnavoy_batch.clauses 𝓤 H)
+tirnavoy-batch-determined = record {
+  states = λ κs a r e. _;
+  says = λ M 𝓤 H A mem run κs a g r e. refl;
+  determined = λ κs a x y. whole (λ (e : BatchEnd). (e .number, kept 8 (e .marks, (e .outcomes, (e .records, tt)))));
+}
 
 pub tirnavoy-verdict-determined : Determined tirnavoy_verdict.ended tirnavoy_verdict.Reads.Post
 tirnavoy-verdict-determined κs a x y = whole (λ (e : List ℕ × List ℕ). (numbers 10 (e .0) .0, kept 9 (e .1, numbers 10 (e .0) .1)))

@@ -1,12 +1,11 @@
 -- From a search's own statement to that of the exported function. Assumes nothing.
-use mathlib.Core.Path.{_≡_, refl, sym, ap, _∙_}
+use mathlib.Core.Path.{_≡_, sym, ap, _∙_}
 use mathlib.Core.Bool.{true, false}
 use mathlib.Core.List.{List, [], _∷_, _++_}
 use Prim.Native.Nat.{ℕ}
 use lib.Dec.{eqb}
 use lib.ListN.{getD}
 use Rattle.scope.specs.declared.Refusal.{Refusal}
-use Rattle.scope.specs.declared.Refusal.the-variants.{Unlisted, Catalogue, Tables, Query, Room, TooMany, BadBucket, Offsets, NotFinite, Outside}
 use Rattle.scope.specs.declared.Found.{Found}
 use Rattle.scope.specs.declared.Verdict.the-variants.{None}
 use Rattle.scope.specs.declared.VerdictReport.{VerdictReport}
@@ -14,22 +13,10 @@ use Rattle.scope.specs.declared.Judged.{Judged}
 use Rattle.scope.specs.declared.Judged.the-variants.{Given, Refused}
 use Rattle.scope.specs.Refusals.{refusal, ofFound, ofVerdict, ofJudged}
 use Rattle.scope.specs.Calls.{SearchEnd, leaves, VerdictEnd, judges}
+use Rattle.scope.proofs.Rows.{numbered}
 use Rattle.tirnavoy.specs.Outs.{oneOut, skyOuts, searchOuts, searched, spoken, verdictOuts, told}
 
--- a refusal's number is not 0
-pub numbered : (f : Refusal) → eqb (refusal f .0) 0 ≡ false
-numbered Unlisted = refl
-numbered Catalogue = refl
-numbered Tables = refl
-numbered Query = refl
-numbered Room = refl
-numbered (TooMany t) = refl
-numbered (BadBucket table bucket) = refl
-numbered Offsets = refl
-numbered (NotFinite place) = refl
-numbered (Outside place) = refl
-
--- so its outs are
+-- a refusal's outs, whose number is not 0
 pub one-refused : (f : Refusal) → refusal f .0 ∷ 0 ∷ [] ≡ oneOut (refusal f)
 one-refused f = rw (numbered f)
 

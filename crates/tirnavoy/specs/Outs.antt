@@ -5,13 +5,8 @@ use mathlib.Core.List.{List, [], _∷_}
 use Prim.Native.Nat.{ℕ}
 use lib.Dec.{eqb}
 use lib.ListN.{getD}
-use Rattle.scope.specs.declared.Shape.{Shape}
 use Rattle.scope.specs.Refusals.{ofBuilt, ofFound, ofJudged}
 use Rattle.scope.specs.Calls.{BuildEnd, SearchEnd, VerdictEnd}
-
--- the shape that two numbers name
-abbrev pub shape : ℕ → ℕ → Shape
-shape w s = record { w = w; s = s }
 
 -- value k where nothing is refused, and value k returned with a refusal
 abbrev pub given : ℕ × List ℕ → ℕ → ℕ

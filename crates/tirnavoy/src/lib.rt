@@ -1,11 +1,15 @@
 // The library for C: plain numbers and lists in, a refusal's number back, everything else through the outs.
 ghost use mathlib.Core.Path.{_≡_};
 ghost use mathlib.Core.List.{[], _∷_};
+ghost use lib.ListN.{length};
+ghost use Rattle.scope.specs.Batch.{batch, fills, batchEnd};
 ghost use Rattle.scope.specs.Calls.{asked, buildEnd, checkAnswer, nearestEnd, withinEnd, verdictEnd, blackboardAnswer, skyAnswer};
 ghost use Rattle.scope.specs.Walk.{question};
+ghost use Rattle.scope.specs.Shape.{shape};
 ghost use Rattle.scope.specs.Tables.{index};
 ghost use Rattle.scope.specs.Refusals.{refusal, ofChecked, ofFound, ofVerdict, ofJudged, ofSky, ofBlackboard};
-ghost use Rattle.tirnavoy.specs.Outs.{shape, oneOut, skyOuts, searchOuts, spoken, verdictOuts, built, searched, told};
+ghost use Rattle.tirnavoy.specs.Outs.{oneOut, skyOuts, searchOuts, spoken, verdictOuts, built, searched, told};
+use scope::Answer;
 use scope::Blackboard;
 use scope::Built;
 use scope::Checked;
@@ -187,6 +191,61 @@ pub extern "C" fn tirnavoy_within(
         distances,
     );
     report(found, answers, opened, tested, table, bucket)
+}
+
+// The k nearest entries to each of up to 256 queries: four numbers and k records for each. A small k needs little scratch, and less is cleared.
+#[no_mangle]
+pub extern "C" fn tirnavoy_batch<'s, 'm, 'o, 'r>(
+    w: u32,
+    s: u32,
+    stars: &'s [u32],
+    codes: &'s [u64],
+    starts: &'s [u32],
+    ids: &'s [u32],
+    queries: &'s [u64],
+    k: u32,
+    marks: &'m mut [u64],
+    outcomes: &'o mut [u32],
+    records: &'r mut [Answer],
+) -> u32
+    ensures { λ r. ⌜ fills r (now (marks .exit)) (now (outcomes .exit)) (now (records .exit)) ≡ batchEnd (batch (index (shape w s) (now (stars .entry)) (now (codes .entry)) (now (starts .entry)) (now (ids .entry))) (now (queries .entry)) k (now (marks .entry)) (now (outcomes .entry)) (length (now (records .entry)))) (now (records .entry)) ⌝ }
+{
+    if k <= 1024 {
+        let mut entries = [0u32; 1024];
+        let mut distances = [0u32; 1024];
+        return batch::fill(
+            w,
+            s,
+            stars,
+            codes,
+            starts,
+            ids,
+            queries,
+            k,
+            marks,
+            outcomes,
+            &mut entries,
+            &mut distances,
+            records,
+        );
+    }
+    let mut entries = [0u32; 65536];
+    let mut distances = [0u32; 65536];
+    batch::fill(
+        w,
+        s,
+        stars,
+        codes,
+        starts,
+        ids,
+        queries,
+        k,
+        marks,
+        outcomes,
+        &mut entries,
+        &mut distances,
+        records,
+    )
 }
 
 // A verdict through its outs.
