@@ -3,8 +3,8 @@
 #include <stdio.h>
 #include "tirnavoy.h"
 
-enum { W = 1, S = 8, FIELDS = 60, STARS = 14, GROUPS = 30, MIXED_UP = 13, K = 1 };
-enum { STARTS = TIRNAVOY_STARTS_LENGTH(W, S), IDS = TIRNAVOY_IDS_LENGTH(W, S, FIELDS), MARKS = TIRNAVOY_MARK_WORDS(FIELDS) };
+enum { W = 1, M = 8, FIELDS = 60, STARS = 14, GROUPS = 30, MIXED_UP = 13, K = 1 };
+enum { STARTS = TIRNAVOY_STARTS_LENGTH(W, M), IDS = TIRNAVOY_IDS_LENGTH(W, M, FIELDS), MARKS = TIRNAVOY_MARK_WORDS(FIELDS) };
 enum { OUTCOMES = TIRNAVOY_OUTCOMES_LENGTH(GROUPS), RECORDS = TIRNAVOY_RECORDS_LENGTH(GROUPS, K) };
 
 static uint32_t stars[FIELDS];
@@ -33,7 +33,7 @@ static int make_catalogue(void) {
         }
         if (tirnavoy_sky_degrees(across[f], STARS, up[f], STARS, &codes[f], &place) != TIRNAVOY_NONE) return 0;
     }
-    return tirnavoy_build(W, S, stars, FIELDS, codes, FIELDS * W, starts, STARTS, ids, IDS) == TIRNAVOY_NONE;
+    return tirnavoy_build(W, M, stars, FIELDS, codes, FIELDS * W, starts, STARTS, ids, IDS) == TIRNAVOY_NONE;
 }
 
 /* group g's shot of some field: g % 5 of its stars are lost, and g % 3 others are seen */
@@ -67,7 +67,7 @@ int main(void) {
     }
     for (int g = 1; g <= GROUPS; g++)
         if (!take_shot(g, &shots[g - 1])) return 1;
-    const uint32_t refusal = tirnavoy_batch(W, S, stars, FIELDS, codes, FIELDS * W, starts, STARTS, ids, IDS, shots, GROUPS * W, K, marks, MARKS, outcomes, OUTCOMES, answers, RECORDS);
+    const uint32_t refusal = tirnavoy_batch(W, M, stars, FIELDS, codes, FIELDS * W, starts, STARTS, ids, IDS, shots, GROUPS * W, K, marks, MARKS, outcomes, OUTCOMES, answers, RECORDS);
     if (refusal != TIRNAVOY_NONE) {
         printf("the batch was refused %u\n", (unsigned)refusal);
         return 1;

@@ -5,8 +5,8 @@
 #include "tirnavoy.h"
 
 /* a short exposure of every field shows SHORT stars, a long exposure of the first TWICE fields shows LONG */
-enum { W = 1, S = 8, FIELDS = 60, TWICE = 40, N = FIELDS + TWICE, SHORT = 14, LONG = 16, REACH = 6, GAP = 3 };
-enum { STARTS = TIRNAVOY_STARTS_LENGTH(W, S), IDS = TIRNAVOY_IDS_LENGTH(W, S, N), MARKS = TIRNAVOY_MARK_WORDS(N) };
+enum { W = 1, M = 8, FIELDS = 60, TWICE = 40, N = FIELDS + TWICE, SHORT = 14, LONG = 16, REACH = 6, GAP = 3 };
+enum { STARTS = TIRNAVOY_STARTS_LENGTH(W, M), IDS = TIRNAVOY_IDS_LENGTH(W, M, N), MARKS = TIRNAVOY_MARK_WORDS(N) };
 
 static uint32_t stars[N];
 static uint64_t codes[N];
@@ -42,7 +42,7 @@ static int make_catalogue(void) {
         if (!expose(f, f, SHORT)) return 0;
     for (int f = 0; f < TWICE; f++)
         if (!expose(FIELDS + f, f, LONG)) return 0;
-    return tirnavoy_build(W, S, stars, N, codes, N, starts, STARTS, ids, IDS) == TIRNAVOY_NONE;
+    return tirnavoy_build(W, M, stars, N, codes, N, starts, STARTS, ids, IDS) == TIRNAVOY_NONE;
 }
 
 /* which two entries are nearest, whatever their fields */
@@ -51,7 +51,7 @@ static void nearest_two(const char *what, const double *x, const double *y, size
     uint32_t place, answers, opened, tested, table, bucket, entry[2], distance[2];
     uint32_t refusal = tirnavoy_sky_degrees(x, n, y, n, &code, &place);
     if (refusal == TIRNAVOY_NONE)
-        refusal = tirnavoy_nearest(W, S, stars, N, codes, N, starts, STARTS, ids, IDS, &code, 1, 2, marks, MARKS, entry, 2, distance, 2, &answers, &opened, &tested, &table, &bucket);
+        refusal = tirnavoy_nearest(W, M, stars, N, codes, N, starts, STARTS, ids, IDS, &code, 1, 2, marks, MARKS, entry, 2, distance, 2, &answers, &opened, &tested, &table, &bucket);
     if (refusal != TIRNAVOY_NONE) {
         printf("%s: refused %u\n", what, (unsigned)refusal);
         return;
@@ -71,7 +71,7 @@ static void ask(const char *what, const double *x, const double *y, size_t n) {
         printf("%s: refused %u at star %u\n", what, (unsigned)refusal, (unsigned)place);
         return;
     }
-    refusal = tirnavoy_verdict(W, S, stars, N, codes, N, starts, STARTS, ids, IDS, &code, 1, REACH, GAP, marks, MARKS, &verdict, &star, &other, &distance, &farther, &opened, &tested, &table,
+    refusal = tirnavoy_verdict(W, M, stars, N, codes, N, starts, STARTS, ids, IDS, &code, 1, REACH, GAP, marks, MARKS, &verdict, &star, &other, &distance, &farther, &opened, &tested, &table,
                                &bucket);
     if (refusal != TIRNAVOY_NONE) {
         printf("%s: refused %u\n", what, (unsigned)refusal);
@@ -81,7 +81,7 @@ static void ask(const char *what, const double *x, const double *y, size_t n) {
     if (verdict == TIRNAVOY_UNSURE) printf("%s: unsure, field %u at distance %u or field %u at %u", what, (unsigned)star, (unsigned)distance, (unsigned)other, (unsigned)farther);
     if (verdict == TIRNAVOY_NO_FIELD) {
         /* not refused either: it is asked of the same lists, with room for the one answer */
-        tirnavoy_nearest(W, S, stars, N, codes, N, starts, STARTS, ids, IDS, &code, 1, 1, marks, MARKS, entry, 1, nearest, 1, &answers, &opened, &tested, &table, &bucket);
+        tirnavoy_nearest(W, M, stars, N, codes, N, starts, STARTS, ids, IDS, &code, 1, 1, marks, MARKS, entry, 1, nearest, 1, &answers, &opened, &tested, &table, &bucket);
         printf("%s: none, the nearest field is at distance %u", what, (unsigned)nearest[0]);
     }
     printf(" (%u buckets, %u tested)\n", (unsigned)opened, (unsigned)tested);

@@ -30,7 +30,7 @@ def shot(group):
 
 
 fields = [[star() for _ in range(STARS)] for _ in range(FIELDS)]
-catalogue = Catalogue(1)
+catalogue = Catalogue(1, 8)
 catalogue.stars = [1000 + f for f in range(FIELDS)]
 catalogue.codes = [code_of(field) for field in fields]
 print("group field distance buckets")

@@ -26,6 +26,8 @@ GOOD = {
     "": "",
     "# nothing\n\n": "",
     "head 1 8": HEAD,
+    "Tables 1 16\nsky degrees": "02 00 07 00 01 10  01 00 06 00 01",
+    "tables 2 18\nentry 1 0xabc": "02 00 07 00 02 12  14 00 02 00 01 00 00 00 BC 0A 00 00 00 00 00 00 00 00 00 00 00 00 00 00",
     "head 2 8\nentry 1 0xabc": "02 00 01 00 02 08  14 00 02 00 01 00 00 00 BC 0A 00 00 00 00 00 00 00 00 00 00 00 00 00 00",
     "head 1 8\nentry 4294967295 0xffffffffffffffff": HEAD + "0C 00 02 00 FF FF FF FF FF FF FF FF FF FF FF FF",
     "head 1 8\nnearest 2 0x3  # record 7 of the example": HEAD + "0A 00 03 00 02 00 03 00 00 00 00 00 00 00",
@@ -39,8 +41,9 @@ GOOD = {
     "\ufeffHEAD\t1 8\r\n\tNearest  1\t0XA \r\nSky DEGREES\r\n": HEAD + "0A 00 03 00 01 00 0A 00 00 00 00 00 00 00  01 00 06 00 01",
     "head 1 8\rsky degrees\r": HEAD + "01 00 06 00 01",
     # wrong records on purpose: neither the lines nor what comes after them are held to the order
-    "raw 7 0108\nhead 1 8\nhead 1 8\nentry 1 0x2": "02 00 07 00 01 08" + HEAD + HEAD + "0C 00 02 00 01 00 00 00 02 00 00 00 00 00 00 00",
+    "raw 9 0108\nhead 1 8\ntables 1 8\nentry 1 0x2": "02 00 09 00 01 08" + HEAD + "02 00 07 00 01 08" + "0C 00 02 00 01 00 00 00 02 00 00 00 00 00 00 00",
     "raw 1 0208\nentry 1 0x20000000000000001": "02 00 01 00 02 08  14 00 02 00 01 00 00 00 01 00 00 00 00 00 00 00 02 00 00 00 00 00 00 00",
+    "raw 7 020B\nentry 1 0x20000000000000001": "02 00 07 00 02 0B  14 00 02 00 01 00 00 00 01 00 00 00 00 00 00 00 02 00 00 00 00 00 00 00",
     "head 1 8\nsky degrees\nraw 0\nentry 1 0x2\nbytes 0A00": HEAD + "01 00 06 00 01  00 00 00 00  0C 00 02 00 01 00 00 00 02 00 00 00 00 00 00 00  0A 00",
     "bytes 0200\nentry 1 0x2": "02 00  0C 00 02 00 01 00 00 00 02 00 00 00 00 00 00 00",
 }
@@ -48,7 +51,7 @@ GOOD = {
 NUMBER = "a whole number in decimal digits (no sign, no leading zero), and not"
 CODE = "expected a code, which is written 0x and hex digits, and not"
 ANGLE = "expected an angle, as -1.25, inf, nan, or 0x and 16 hex digits for the bits of an f64, and not"
-NAMES = "expected head, entry, nearest, within, verdict or sky (or raw, bytes), and not"
+NAMES = "expected head, tables, entry, nearest, within, verdict or sky (or raw, bytes), and not"
 COMMAS = "; spaces stand between words, and no commas"
 # a text, and all lines on standard error, each without the tool's name
 WRONG = {
@@ -63,10 +66,16 @@ WRONG = {
     # order and limits: what the session would call bad
     "\n# no head\nentry 1 0x2\nentry 2 0x2\nhead 1 8\nnearest 1 0x3": ["line 3: expected head first, as in 'head 1 8', and not 'entry'"],
     "sky degrees 1,2": ["line 1: expected head first, as in 'head 1 8', and not 'sky'"],
-    "head 1 8\nnearest 1 0x3\nhead 2 8\nentry 1 0x10000000000000000": ["line 3: expected one head only, and not 'head' again: it stands in line 1"],
+    "head 1 8\nnearest 1 0x3\nhead 2 8\nentry 1 0x10000000000000000": ["line 3: expected one head only, and not 'head': the head stands in line 1"],
+    "head 1 8\ntables 1 8\n": ["line 2: expected one head only, and not 'tables': the head stands in line 1"],
+    "\ntables 1 8\nhead 1 8\n": ["line 3: expected one head only, and not 'head': the head stands in line 2"],
     "head 4 8\nentry 1 0x10000000000000000": ["line 1: expected w, which is 1 or 2 (codes of 64 or 128 bits), and not '4'"],
     "head 01 8": ["line 1: expected w, which is 1 or 2 (codes of 64 or 128 bits), and not '01'"],
     "head 1 16": ["line 1: expected s, which is 8, and not '16'"],
+    "tables 1": ["line 1: expected 'tables' with w and m, as in 'tables 2 18', and not 'tables 1'"],
+    "tables 4 32": ["line 1: expected w, which is 1 or 2 (codes of 64 or 128 bits), and not '4'"],
+    **{f"tables 1 {m}": [f"line 1: expected m, which is from 8 to 16 where w is 1, and not '{m}'"] for m in ("7", "17", "08", "x", "264")},
+    **{f"tables 2 {m}": [f"line 1: expected m, which is from 16 to 32 where w is 2, and not '{m}'"] for m in ("11", "15", "33")},
     "head 1 8\nentry 1 0x2\nwithin 1 0x3\nsky degrees\nentry 2 0x2\nentry 3 0x3": ["line 5: expected a question, and not 'entry': entries come before the first question, which is in line 3"],
     "head 1 8\n" + "entry 1 0x2\n" * 515: ["line 514: expected at most 512 entries, and not 'entry' for the 513th time"],
     "head 1 8\n" + "sky degrees\n" * 65536: ["line 65536: expected at most 65,535 records, and not 'sky' as record 65,536"],

@@ -12,8 +12,8 @@ class Bad(Exception):
     """A record that breaks the rules, or that the input cuts short."""
 
 
-# the number of ones of each 8-bit number
-ONES = [bin(v).count("1") for v in range(256)]
+# the number of ones of each number that a substring can be
+ONES = [bin(v).count("1") for v in range(65536)]
 
 
 def bits_that_differ(a, b):
@@ -21,16 +21,18 @@ def bits_that_differ(a, b):
 
 
 class Catalogue:
-    def __init__(self, w):
+    def __init__(self, w, m):
         self.w = w
         self.q = 64 * w
-        self.s = 8
-        self.m = self.q // self.s
+        self.m = m
+        longer = self.q % m
+        self.bits = [self.q // m + (1 if z < longer else 0) for z in range(m)]
+        self.first = [sum(self.bits[:z]) for z in range(m)]
         self.stars = []
         self.codes = []
 
     def substring(self, code, z):
-        return (code >> (z * self.s)) % (1 << self.s)
+        return (code >> self.first[z]) % (1 << self.bits[z])
 
     def walk(self, query, enough, last):
         """Steps 0, 1, .. up to `last`, until enough(tested, R) holds after step R: buckets opened, entries tested."""
@@ -38,7 +40,7 @@ class Catalogue:
         for R in range(last + 1):
             radius, a = divmod(R, self.m)
             key = self.substring(query, a)
-            buckets += sum(1 for v in range(256) if ONES[v ^ key] == radius)
+            buckets += sum(1 for v in range(1 << self.bits[a]) if ONES[v ^ key] == radius)
             tested |= {i for i, code in enumerate(self.codes) if ONES[self.substring(code, a) ^ key] == radius}
             if enough(tested, R):
                 break
@@ -161,9 +163,12 @@ def run(data, lines):
                 raise Bad
             at += 4 + length
             if catalogue is None:
-                if kind != 1 or length != 2 or body[0] not in (1, 2) or body[1] != 8:
+                if kind not in (1, 7) or length != 2 or body[0] not in (1, 2):
                     raise Bad
-                catalogue = Catalogue(body[0])
+                w, m = body[0], 8 * body[0] if kind == 1 else body[1]
+                if kind == 1 and body[1] != 8 or not 8 * w <= m <= 16 * w:
+                    raise Bad
+                catalogue = Catalogue(w, m)
             elif kind == 2:
                 if asked or length != 4 + 8 * catalogue.w or len(catalogue.codes) == 512:
                     raise Bad

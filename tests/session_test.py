@@ -25,6 +25,10 @@ def head(w=1, s=8):
     return record(1, bytes([w, s]))
 
 
+def tables(w, m):
+    return record(7, bytes([w, m]))
+
+
 def code(value, w=1):
     return value.to_bytes(8 * w, "little")
 
@@ -61,7 +65,7 @@ def bad_records():
     """Every kind of record that breaks the rules, before and after a question."""
     wrong = {
         "kind 0": record(0, b""),
-        "kind 7": record(7, bytes([1, 8])),
+        "kind 8": record(8, bytes([1, 8])),
         "kind 65535": record(65535, b""),
         "second head": head(),
         "entry too short": record(2, b"\0" * 11),
@@ -114,6 +118,16 @@ def limits():
             yield f"w {w}, k {k}", few + nearest(k, 3, w)
         yield f"w {w}, no entries", head(w) + nearest(0, 3, w) + nearest(9, 3, w) + within(0, 3, w) + within(q, 3, w) + verdict(q, q, 3, w) + verdict(q + 1, 0, 3, w)
         yield f"w {w}, sky", head(w) + sky(1, [(0.5, -1.25), (2.0, 3.0)])
+        for m in (0, *range(8 * w - 1, 16 * w + 2), 255):
+            cut = tables(w, m) + few[len(head(w)) :]
+            asked = [nearest(k, 3, w) for k in (1, 2, 4, 5)] + [within(r, 3, w) for r in (0, 1, m, q - 1, q, q + 1)] + [verdict(4, 3, 3, w)]
+            yield f"w {w}, m {m}", cut + b"".join(asked)
+    for name, first in {"w 0": tables(0, 8), "w 3": tables(3, 24), "w 4": tables(4, 32), "of 1": record(7, b"\1"), "of 3": record(7, b"\1\x08\0")}.items():
+        yield f"head by tables: {name}", first
+    yield "two heads", tables(1, 8) + head()
+    yield "head by tables after a head", head() + tables(1, 8)
+    yield "head by tables after entries", CATALOGUE + tables(1, 8)
+    yield "512 entries in 32 tables", tables(2, 32) + b"".join(entry(i, i * 0x9E3779B97F4A7C15F39CC0605CEDC835 % 2**128, 2) for i in range(512)) + nearest(512, 5, 2)
     yield "equal codes", head() + entry(1, 5) + entry(1, 5) + entry(2, 5) + nearest(2, 5) + verdict(0, 0, 5) + verdict(0, 1, 5) + within(0, 5)
     yield "one entry", head() + entry(1, 5) + nearest(9, 0) + verdict(2, 64, 0) + verdict(1, 0, 0)
     for stars in ((5, 5, 6, 7), (5, 5, 7, 6), (6, 5, 5, 7), (5, 5, 5, 6), (5, 5, 5, 5), (5, 6, 7, 8)):
@@ -149,7 +163,8 @@ def random_input(rng):
 
     codes = [near(centre, rng.choice((0, 3, 12, q))) for _ in range(rng.choice((0, 1, 2, 5, 20, 60)))]
     stars = rng.choice((1, 2, 2, 3, 4, 2**32))  # few, so that many entries have the same one
-    parts = [head(w)] + [entry(rng.randrange(stars), c, w) for c in codes]
+    first = rng.choice((head(w), tables(w, rng.randrange(8 * w - 1, 16 * w + 2))))
+    parts = [first] + [entry(rng.randrange(stars), c, w) for c in codes]
     for _ in range(rng.randrange(6)):
         value = near(rng.choice(codes) if codes and rng.random() < 0.8 else centre, rng.choice((0, 2, 6, q)))
         limit = lambda: rng.choice((0, 1, 2, 5, rng.randrange(q + 1), q, q + 1, rng.getrandbits(16)))

@@ -9,7 +9,7 @@ import subprocess
 import sys
 import tempfile
 
-from session_test import EXAMPLE, entry, head, nearest, record, sky
+from session_test import EXAMPLE, entry, head, nearest, record, sky, tables
 
 ROOT = pathlib.Path(__file__).resolve().parent.parent
 SHOW = ROOT / "tools" / "show"
@@ -46,7 +46,7 @@ PROGRAMS = [
     ("sky degrees 0,0", "stars 1\n3 refused 99\n", "  refused 99: not a refusal of a session", ""),
 ]
 # each refusal with words of document 01's table
-REFUSED = {1: "w or s", 2: "65,536", 3: "starts", 4: "r, t or g", 5: "marks", 6: "answers", 7: "bucket", 8: "4,096", 9: "infinite or not a number", 10: "outside the field"}
+REFUSED = {1: "w or m", 2: "65,536", 3: "starts", 4: "r, t or g", 5: "marks", 6: "answers", 7: "bucket", 8: "4,096", 9: "infinite or not a number", 10: "outside the field"}
 
 
 def show(*words, tool=SHOW, data=b""):
@@ -88,6 +88,8 @@ def sessions():
         status, drawn, said = show("-", data=data)
         yield f"bad {name}: {drawn}", status == 1 and drawn.endswith(end) and said == ""
     yield "empty", show("-") == (0, "the session is empty\n", "")
+    status, drawn, said = show("-", data=tables(2, 18) + entry(10, 2**18 - 1, 2) + nearest(1, 0, 2))
+    yield f"a head by tables: {drawn}", (status, said) == (0, "") and "1 answer, 26 buckets opened, 1 entry tested" in drawn and "distance 18" in drawn
     yield "a lone head", show("-", data=b"head 1 8") == (0, "0 entries in the catalogue\n", "")
     yield "wrong text", show("-", data=b"head 1 8\nnearest 1 3") == (1, "", "show: line 2: expected a code, which is written 0x and hex digits, and not '3'; did you mean 0x3?\n")
     yield "no text", show("-", data=b"\xff\xfe") == (1, "", "show: the file is not text (UTF-8)\n")

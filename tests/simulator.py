@@ -39,7 +39,7 @@ def ask(catalogue, what, field):
 
 
 fields = [[(8 * chance() - 4, 8 * chance() - 4) for _ in range(LONG)] for _ in range(FIELDS)]
-catalogue = Catalogue(1)
+catalogue = Catalogue(1, 8)
 catalogue.stars = [1000 + f for f in [*range(FIELDS), *range(TWICE)]]
 catalogue.codes = [code_of(field[:SHORT]) for field in fields] + [code_of(field) for field in fields[:TWICE]]
 shot = fields[7][: SHORT + 1]

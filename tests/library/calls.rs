@@ -7,7 +7,7 @@ use std::fmt::Debug;
 #[derive(Clone, Debug)]
 pub struct Call {
     pub w: u32,
-    pub s: u32,
+    pub m: u32,
     pub stars: Vec<u32>,
     pub codes: Vec<u64>,
     pub starts: Vec<u32>,
@@ -20,7 +20,7 @@ pub struct Call {
 
 impl Call {
     pub fn index(&self) -> Index<'_> {
-        Index { w: self.w, s: self.s, stars: &self.stars, codes: &self.codes, starts: &self.starts, ids: &self.ids }
+        Index { w: self.w, m: self.m, stars: &self.stars, codes: &self.codes, starts: &self.starts, ids: &self.ids }
     }
 }
 
@@ -100,7 +100,7 @@ fn compare<T: PartialEq + Debug>(what: &str, ours: T, theirs: T) -> Result<(), S
 pub fn run_build(c: &Call) -> Result<u32, String> {
     let (number, starts, ids) = reference::build(&c.index());
     let mut l = Lent::new(c);
-    let got = unsafe { library::tirnavoy_build(c.w, c.s, l.stars.at(), c.stars.len(), l.codes.at(), c.codes.len(), l.starts.at(), c.starts.len(), l.ids.at(), c.ids.len()) };
+    let got = unsafe { library::tirnavoy_build(c.w, c.m, l.stars.at(), c.stars.len(), l.codes.at(), c.codes.len(), l.starts.at(), c.starts.len(), l.ids.at(), c.ids.len()) };
     compare("build", got, number)?;
     l.starts.holds("build: starts", &starts)?;
     l.ids.holds("build: ids", &ids)?;
@@ -112,7 +112,7 @@ pub fn run_check(c: &Call) -> Result<u32, String> {
     let theirs = reference::check(&c.index());
     let mut l = Lent::new(c);
     let mut sound = 77;
-    let got = unsafe { library::tirnavoy_check(c.w, c.s, l.stars.at(), c.stars.len(), l.codes.at(), c.codes.len(), l.starts.at(), c.starts.len(), l.ids.at(), c.ids.len(), &mut sound) };
+    let got = unsafe { library::tirnavoy_check(c.w, c.m, l.stars.at(), c.stars.len(), l.codes.at(), c.codes.len(), l.starts.at(), c.starts.len(), l.ids.at(), c.ids.len(), &mut sound) };
     compare("check: number and answer", (got, sound), theirs)?;
     l.unchanged(c)?;
     Ok(theirs.0)
@@ -140,7 +140,7 @@ pub fn run_search(c: &Call, radius: bool) -> Result<u32, String> {
     let call = if radius { library::tirnavoy_within } else { library::tirnavoy_nearest };
     let number = unsafe {
         call(
-            c.w, c.s, l.stars.at(), c.stars.len(), l.codes.at(), c.codes.len(), l.starts.at(), c.starts.len(), l.ids.at(), c.ids.len(),
+            c.w, c.m, l.stars.at(), c.stars.len(), l.codes.at(), c.codes.len(), l.starts.at(), c.starts.len(), l.ids.at(), c.ids.len(),
             l.query.at(), c.query.len(), c.number, marks.at(), c.lists.marks.len(), entries.at(), c.lists.entries.len(), distances.at(), c.lists.distances.len(),
             answers, opened, tested, table, bucket,
         )
@@ -162,7 +162,7 @@ pub fn run_verdict(c: &Call) -> Result<u32, String> {
     let [verdict, star, other, distance, farther, opened, tested, table, bucket] = &mut got;
     let number = unsafe {
         library::tirnavoy_verdict(
-            c.w, c.s, l.stars.at(), c.stars.len(), l.codes.at(), c.codes.len(), l.starts.at(), c.starts.len(), l.ids.at(), c.ids.len(),
+            c.w, c.m, l.stars.at(), c.stars.len(), l.codes.at(), c.codes.len(), l.starts.at(), c.starts.len(), l.ids.at(), c.ids.len(),
             l.query.at(), c.query.len(), c.number, c.gap, marks.at(), c.lists.marks.len(), verdict, star, other, distance, farther, opened, tested, table, bucket,
         )
     };
@@ -183,7 +183,7 @@ pub fn run_batch(c: &Call, queries: &[u64], results: &Results) -> Result<u32, St
     let (mut outcomes, mut records) = (Guarded::new(&results.outcomes, GUARD), Guarded::new(&results.records, [GUARD; 3]));
     let got = unsafe {
         library::tirnavoy_batch(
-            c.w, c.s, l.stars.at(), c.stars.len(), l.codes.at(), c.codes.len(), l.starts.at(), c.starts.len(), l.ids.at(), c.ids.len(),
+            c.w, c.m, l.stars.at(), c.stars.len(), l.codes.at(), c.codes.len(), l.starts.at(), c.starts.len(), l.ids.at(), c.ids.len(),
             lent.at(), queries.len(), c.number, marks.at(), results.marks.len(), outcomes.at(), results.outcomes.len(), records.at(), results.records.len(),
         )
     };
@@ -196,10 +196,10 @@ pub fn run_batch(c: &Call, queries: &[u64], results: &Results) -> Result<u32, St
     Ok(number)
 }
 
-pub fn run_blackboard(w: u32, s: u32, step: u32) -> Result<u32, String> {
+pub fn run_blackboard(w: u32, m: u32, step: u32) -> Result<u32, String> {
     let mut buckets = 77;
-    let number = unsafe { library::tirnavoy_blackboard(w, s, step, &mut buckets) };
-    compare(&format!("blackboard w {w} s {s} step {step}"), (number, buckets), reference::blackboard(w, s, step))?;
+    let number = unsafe { library::tirnavoy_blackboard(w, m, step, &mut buckets) };
+    compare(&format!("blackboard w {w} m {m} step {step}"), (number, buckets), reference::blackboard(w, m, step))?;
     Ok(number)
 }
 

@@ -1,6 +1,7 @@
 //! The library's exported functions against `reference.rs`: the same calls to both.
 //!
 //! usage: compare random CALLS SEED     random calls over all shapes, sound and damaged tables, every refusal
+//!        compare shapes SEED           every listed w and m, and the m next to them
 //!        compare large SEED            a few calls at n = 65,536 and 65,537
 //!        compare bytes FILE..          the calls that a fuzzer's bytes make
 mod calls;
@@ -20,9 +21,9 @@ fn random(calls: u64, seed: u64) -> Result<Refusals, String> {
     Ok(refusals)
 }
 
-fn large(seed: u64) -> Result<Refusals, String> {
+fn all_of(calls: fn(&mut Random, &mut Refusals) -> Result<(), String>, seed: u64) -> Result<Refusals, String> {
     let (mut rng, mut refusals) = (Random::seeded(seed), Refusals::default());
-    makers::large(&mut rng, &mut refusals).map_err(|error| format!("{error}\nseed {seed}"))?;
+    calls(&mut rng, &mut refusals).map_err(|error| format!("{error}\nseed {seed}"))?;
     Ok(refusals)
 }
 
@@ -41,10 +42,11 @@ fn main() {
     let number = |i: usize| words.get(i).and_then(|word| word.parse::<u64>().ok());
     let (what, outcome) = match (words.first().map(String::as_str), number(1), number(2)) {
         (Some("random"), Some(calls), Some(seed)) => (format!("random calls, seed {seed}"), random(calls, seed)),
-        (Some("large"), Some(seed), _) => (format!("large calls, seed {seed}"), large(seed)),
+        (Some("shapes"), Some(seed), _) => (format!("calls of every shape, seed {seed}"), all_of(makers::shapes, seed)),
+        (Some("large"), Some(seed), _) => (format!("large calls, seed {seed}"), all_of(makers::large, seed)),
         (Some("bytes"), _, _) => ("a fuzzer's calls".to_string(), bytes(&words[1..])),
         _ => {
-            eprintln!("usage: compare random CALLS SEED | large SEED | bytes FILE..");
+            eprintln!("usage: compare random CALLS SEED | shapes SEED | large SEED | bytes FILE..");
             std::process::exit(2);
         }
     };

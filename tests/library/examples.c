@@ -3,14 +3,14 @@
 #include <stdio.h>
 #include "tirnavoy.h"
 
-enum { W = 1, S = 8, N = 5, ROOM = 6, UNTOUCHED = 77 };
-enum { STARTS = TIRNAVOY_STARTS_LENGTH(W, S), IDS = TIRNAVOY_IDS_LENGTH(W, S, N), MARKS = TIRNAVOY_MARK_WORDS(N) };
+enum { W = 1, M = 8, N = 5, ROOM = 6, UNTOUCHED = 77 };
+enum { STARTS = TIRNAVOY_STARTS_LENGTH(W, M), IDS = TIRNAVOY_IDS_LENGTH(W, M, N), MARKS = TIRNAVOY_MARK_WORDS(N) };
 
 /* the preprocessor and a constant can ask for a listed shape, and a size of another is a constant too */
 #if !TIRNAVOY_LISTED(1, 8) || TIRNAVOY_LISTED(1, 0)
-#error "w = 1 and s = 8 are listed, s = 0 is not"
+#error "w = 1 and m = 8 are listed, m = 0 is not"
 #endif
-enum { LISTED = TIRNAVOY_LISTED(W, S), NO_STARTS = TIRNAVOY_STARTS_LENGTH(1, 0), NO_IDS = TIRNAVOY_IDS_LENGTH(3, 8, N) };
+enum { LISTED = TIRNAVOY_LISTED(W, M), NO_STARTS = TIRNAVOY_STARTS_LENGTH(1, 0), NO_IDS = TIRNAVOY_IDS_LENGTH(3, 8, N) };
 static const size_t no_starts = TIRNAVOY_STARTS_LENGTH(1, 64), no_ids = TIRNAVOY_IDS_LENGTH(1, 0, N), no_tables = TIRNAVOY_TABLE_COUNT(1, 0);
 
 /* catalogue A, and the query 3 */
@@ -46,10 +46,10 @@ static void search(int line, int radius, uint32_t number, size_t room, uint32_t 
     for (int p = 0; p < ROOM; p++) entries[p] = distances[p] = UNTOUCHED;
     marks[0] = UNTOUCHED;
     if (radius)
-        returned = tirnavoy_within(W, S, stars, N, codes, N, starts, STARTS, ids, IDS, query, W, number, marks, MARKS, entries, room, distances, room, &got[0], &got[1], &got[2], &got[3],
+        returned = tirnavoy_within(W, M, stars, N, codes, N, starts, STARTS, ids, IDS, query, W, number, marks, MARKS, entries, room, distances, room, &got[0], &got[1], &got[2], &got[3],
                                    &got[4]);
     else
-        returned = tirnavoy_nearest(W, S, stars, N, codes, N, starts, STARTS, ids, IDS, query, W, number, marks, MARKS, entries, room, distances, room, &got[0], &got[1], &got[2], &got[3],
+        returned = tirnavoy_nearest(W, M, stars, N, codes, N, starts, STARTS, ids, IDS, query, W, number, marks, MARKS, entries, room, distances, room, &got[0], &got[1], &got[2], &got[3],
                                     &got[4]);
     expect(line, returned, refusal);
     for (int o = 0; o < 5; o++) {
@@ -85,7 +85,7 @@ static void within(void) {
 
 static void verdict(int line, uint32_t t, uint32_t g, const uint32_t *expected) {
     uint32_t got[9];
-    expect(line, tirnavoy_verdict(W, S, stars, N, codes, N, starts, STARTS, ids, IDS, query, W, t, g, marks, MARKS, &got[0], &got[1], &got[2], &got[3], &got[4], &got[5], &got[6], &got[7], &got[8]),
+    expect(line, tirnavoy_verdict(W, M, stars, N, codes, N, starts, STARTS, ids, IDS, query, W, t, g, marks, MARKS, &got[0], &got[1], &got[2], &got[3], &got[4], &got[5], &got[6], &got[7], &got[8]),
            TIRNAVOY_NONE);
     for (int o = 0; o < 9; o++) expect(line, got[o], expected[o]);
 }
@@ -108,7 +108,7 @@ static void batch(int line, const uint64_t *queries, size_t count, uint32_t k, s
     for (int p = 0; p <= OUTCOMES; p++) outcomes[p] = UNTOUCHED;
     for (int p = 0; p <= RECORDS; p++) records[p].entry = records[p].star = records[p].distance = UNTOUCHED;
     marks[0] = UNTOUCHED;
-    expect(line, tirnavoy_batch(W, S, stars, N, codes, N, starts, STARTS, ids, IDS, queries, count, k, marks, MARKS, outcomes, outcomes_len, records, records_len), refusal);
+    expect(line, tirnavoy_batch(W, M, stars, N, codes, N, starts, STARTS, ids, IDS, queries, count, k, marks, MARKS, outcomes, outcomes_len, records, records_len), refusal);
     for (int p = 0; p <= OUTCOMES; p++) expect(line, outcomes[p], told[p]);
     for (int p = 0; p <= RECORDS; p++) {
         expect(line, records[p].entry, answers[3 * p]);
@@ -135,7 +135,7 @@ static void batches(void) {
     batch(__LINE__, queries, ASKED, 2, OUTCOMES - 1, RECORDS, TIRNAVOY_BATCH, untouched, unwritten);
     batch(__LINE__, queries, 1, 4294967295u, OUTCOMES, RECORDS, TIRNAVOY_BATCH, untouched, unwritten);
     batch(__LINE__, queries, 257, 0, OUTCOMES, RECORDS, TIRNAVOY_BATCH, untouched, unwritten);
-    expect(__LINE__, tirnavoy_batch(W, S, stars, N, codes, N, starts, STARTS, ids, IDS, queries, 257, 9, marks, 0, outcomes, 0, records, 0), TIRNAVOY_ROOM);
+    expect(__LINE__, tirnavoy_batch(W, M, stars, N, codes, N, starts, STARTS, ids, IDS, queries, 257, 9, marks, 0, outcomes, 0, records, 0), TIRNAVOY_ROOM);
     expect(__LINE__, tirnavoy_batch(2, 16, stars, 0, codes, 0, starts, 0, ids, 0, queries, 3, 1, marks, 0, outcomes, 0, records, 0), TIRNAVOY_TABLES);
     starts[4]++; /* bucket 3 of table 0, which only the first query opens at step 0 */
     batch(__LINE__, queries, ASKED, 1, OUTCOMES, RECORDS, TIRNAVOY_NONE, spoilt, others);
@@ -146,10 +146,10 @@ static void batches(void) {
 static void exposures(int line, const uint32_t *shown, const uint64_t *shots, size_t n, uint32_t t, uint32_t g, const uint32_t *expected) {
     static const uint64_t nothing[W] = {0};
     static uint32_t its_starts[STARTS], its_ids[IDS];
-    size_t length = TIRNAVOY_IDS_LENGTH(W, S, n);
+    size_t length = TIRNAVOY_IDS_LENGTH(W, M, n);
     uint32_t got[9];
-    expect(line, tirnavoy_build(W, S, shown, n, shots, n, its_starts, STARTS, its_ids, length), TIRNAVOY_NONE);
-    expect(line, tirnavoy_verdict(W, S, shown, n, shots, n, its_starts, STARTS, its_ids, length, nothing, W, t, g, marks, MARKS, &got[0], &got[1], &got[2], &got[3], &got[4], &got[5], &got[6],
+    expect(line, tirnavoy_build(W, M, shown, n, shots, n, its_starts, STARTS, its_ids, length), TIRNAVOY_NONE);
+    expect(line, tirnavoy_verdict(W, M, shown, n, shots, n, its_starts, STARTS, its_ids, length, nothing, W, t, g, marks, MARKS, &got[0], &got[1], &got[2], &got[3], &got[4], &got[5], &got[6],
                                   &got[7], &got[8]),
            TIRNAVOY_NONE);
     for (int o = 0; o < 9; o++) expect(line, got[o], expected[o]);
@@ -177,6 +177,31 @@ static void two_exposures(void) {
     exposures(__LINE__, two, found_late, 2, 1, 3, exchanged);
 }
 
+/* 02, L4: 128 bits in 11 tables, seven of 12 bits and then four of 11. Entry 0 has two bits in substring 5, which is bits 60 to 71, of both words; entry 1 has one bit in each
+ * substring; entry 2 has all. Distances from the query 0: 2, 11, 128 */
+static void eleven_tables(void) {
+    enum { TWO = 2, ELEVEN = 11, THREE = 3, THEIR_STARTS = TIRNAVOY_STARTS_LENGTH(TWO, ELEVEN), THEIR_IDS = TIRNAVOY_IDS_LENGTH(TWO, ELEVEN, THREE) };
+    static const uint64_t shots[THREE * TWO] = {(uint64_t)1 << 63, 1, 0x1001001001001001u, 0x0020040080100100u, 0xFFFFFFFFFFFFFFFFu, 0xFFFFFFFFFFFFFFFFu}, nothing[TWO] = {0, 0};
+    static uint32_t their_starts[THEIR_STARTS], their_ids[THEIR_IDS];
+    /* step 2 is the third bucket; step 11 = 11 * 1 + 0 the 12 of table 0 at distance 1; after step 128 = 11 * 11 + 7 the tables of 12 bits lack one bucket each, and three of 11 bits */
+    const uint32_t opened[] = {3, 23, 36854}, distance[] = {2, 11, 128};
+    expect(__LINE__, THEIR_STARTS, 7 * (4096 + 1) + 4 * (2048 + 1));
+    expect(__LINE__, tirnavoy_build(TWO, ELEVEN, stars, THREE, shots, THREE * TWO, their_starts, THEIR_STARTS, their_ids, THEIR_IDS), TIRNAVOY_NONE);
+    for (uint32_t k = 1; k <= THREE; k++) {
+        uint32_t got[5], buckets = UNTOUCHED;
+        expect(__LINE__, tirnavoy_nearest(TWO, ELEVEN, stars, THREE, shots, THREE * TWO, their_starts, THEIR_STARTS, their_ids, THEIR_IDS, nothing, TWO, k, marks, MARKS, entries, THREE, distances, THREE,
+                                          &got[0], &got[1], &got[2], &got[3], &got[4]),
+               TIRNAVOY_NONE);
+        expect(__LINE__, got[0], k);
+        expect(__LINE__, got[1], opened[k - 1]);
+        expect(__LINE__, got[2], k);
+        expect(__LINE__, entries[k - 1], k - 1);
+        expect(__LINE__, distances[k - 1], distance[k - 1]);
+        expect(__LINE__, tirnavoy_blackboard(TWO, ELEVEN, distance[k - 1], &buckets), TIRNAVOY_NONE);
+        expect(__LINE__, buckets, opened[k - 1]);
+    }
+}
+
 static void sky(int line, int radians, double across, double up, uint32_t refusal, uint64_t expected) {
     uint64_t code = UNTOUCHED;
     uint32_t place = UNTOUCHED;
@@ -201,42 +226,42 @@ static void skies(void) {
 static void tables(void) {
     const uint32_t unsound[] = {0, 0, 0, 0, 3};
     uint32_t sound = UNTOUCHED;
-    expect(__LINE__, tirnavoy_build(W, S, stars, N, codes, N, starts, STARTS - 1, ids, IDS), TIRNAVOY_TABLES);
-    expect(__LINE__, tirnavoy_build(W, S, stars, N, codes, N, starts, STARTS, ids, IDS), TIRNAVOY_NONE);
-    expect(__LINE__, tirnavoy_check(W, S, stars, N, codes, N, starts, STARTS, ids, IDS, &sound), TIRNAVOY_NONE);
+    expect(__LINE__, tirnavoy_build(W, M, stars, N, codes, N, starts, STARTS - 1, ids, IDS), TIRNAVOY_TABLES);
+    expect(__LINE__, tirnavoy_build(W, M, stars, N, codes, N, starts, STARTS, ids, IDS), TIRNAVOY_NONE);
+    expect(__LINE__, tirnavoy_check(W, M, stars, N, codes, N, starts, STARTS, ids, IDS, &sound), TIRNAVOY_NONE);
     expect(__LINE__, sound, 1);
     starts[4]++; /* the end of table 0's bucket 3, the first that query 3 opens: it now lists an entry of another bucket */
-    expect(__LINE__, tirnavoy_check(W, S, stars, N, codes, N, starts, STARTS, ids, IDS, &sound), TIRNAVOY_NONE);
+    expect(__LINE__, tirnavoy_check(W, M, stars, N, codes, N, starts, STARTS, ids, IDS, &sound), TIRNAVOY_NONE);
     expect(__LINE__, sound, 0);
     search(__LINE__, 0, 1, ROOM, TIRNAVOY_BAD_BUCKET, unsound);
     starts[4]--;
 }
 
-/* for each w and s the size macros agree with the library: listed are those that it does not refuse 1, and it takes lists of those sizes and none that is one shorter */
+/* for each w and m the size macros agree with the library: listed are those that it does not refuse 1, and it takes lists of those sizes and none that is one shorter */
 static void sizes(void) {
     enum { TOP = 70 };
     static const uint32_t one_star[1] = {0};
     static const uint64_t its_code[TOP] = {0};
-    static uint32_t all_starts[TIRNAVOY_STARTS_LENGTH(4, 16)], all_ids[TIRNAVOY_IDS_LENGTH(4, 4, 1)];
+    static uint32_t all_starts[TIRNAVOY_STARTS_LENGTH(4, 16)], all_ids[TIRNAVOY_IDS_LENGTH(4, 64, 1)];
     expect(__LINE__, LISTED, 1);
     expect(__LINE__, NO_STARTS + NO_IDS + no_starts + no_ids + no_tables, 0);
     for (uint32_t w = 0; w <= TOP; w++) {
-        for (uint32_t s = 0; s <= TOP; s++) {
-            const size_t p = TIRNAVOY_STARTS_LENGTH(w, s), i = TIRNAVOY_IDS_LENGTH(w, s, 1);
-            const uint32_t returned = tirnavoy_build(w, s, one_star, 1, its_code, w, all_starts, p, all_ids, i);
-            expect(__LINE__, returned, TIRNAVOY_LISTED(w, s) ? TIRNAVOY_NONE : TIRNAVOY_SHAPE);
+        for (uint32_t m = 0; m <= TOP; m++) {
+            const size_t p = TIRNAVOY_STARTS_LENGTH(w, m), i = TIRNAVOY_IDS_LENGTH(w, m, 1);
+            const uint32_t returned = tirnavoy_build(w, m, one_star, 1, its_code, w, all_starts, p, all_ids, i);
+            expect(__LINE__, returned, TIRNAVOY_LISTED(w, m) ? TIRNAVOY_NONE : TIRNAVOY_SHAPE);
             if (returned != TIRNAVOY_NONE) continue;
-            expect(__LINE__, tirnavoy_build(w, s, one_star, 1, its_code, w, all_starts, p - 1, all_ids, i), TIRNAVOY_TABLES);
-            expect(__LINE__, tirnavoy_build(w, s, one_star, 1, its_code, w, all_starts, p, all_ids, i - 1), TIRNAVOY_TABLES);
+            expect(__LINE__, tirnavoy_build(w, m, one_star, 1, its_code, w, all_starts, p - 1, all_ids, i), TIRNAVOY_TABLES);
+            expect(__LINE__, tirnavoy_build(w, m, one_star, 1, its_code, w, all_starts, p, all_ids, i - 1), TIRNAVOY_TABLES);
         }
     }
 }
 
 static void blackboard(void) {
     uint32_t buckets = UNTOUCHED;
-    expect(__LINE__, tirnavoy_blackboard(W, S, 62, &buckets), TIRNAVOY_NONE);
+    expect(__LINE__, tirnavoy_blackboard(W, M, 62, &buckets), TIRNAVOY_NONE);
     expect(__LINE__, buckets, 2032);
-    expect(__LINE__, tirnavoy_blackboard(W, S, 65, &buckets), TIRNAVOY_QUERY);
+    expect(__LINE__, tirnavoy_blackboard(W, M, 65, &buckets), TIRNAVOY_QUERY);
     expect(__LINE__, buckets, 0);
 }
 
@@ -248,6 +273,7 @@ int main(void) {
     verdicts();
     batches();
     two_exposures();
+    eleven_tables();
     blackboard();
     skies();
     printf("%u passed, %u failed\n", passed, failed);

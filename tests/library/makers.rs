@@ -27,17 +27,17 @@ fn flipped(code: &[u64], flips: u64, rng: &mut Random) -> Vec<u64> {
     out
 }
 
+/// Every listed w and m; now and then the m next to the least or to the most, or odd numbers.
 fn random_shape(rng: &mut Random) -> (u32, u32) {
     if rng.one_in(40) {
         let odd = [0, 1, 2, 3, 4, 5, 8, 16, 17, 64, 256, u32::MAX, 1 << 16, 8 + (1 << 31)];
         return (rng.pick(&odd), rng.pick(&odd));
     }
-    (rng.pick(&[1, 1, 2, 4]), rng.pick(&[4, 8, 16]))
-}
-
-/// The starts of all tables; none for a shape that is not listed.
-fn starts_of(w: u32, s: u32) -> usize {
-    if reference::listed(w, s) { (64 * w / s) as usize * ((1 << s) + 1) } else { 0 }
+    let w = rng.pick(&[1, 1, 2, 4]);
+    if rng.one_in(20) {
+        return (w, rng.pick(&[4 * w - 1, 16 * w + 1]));
+    }
+    (w, 4 * w + rng.below(12 * w as u64 + 1) as u32)
 }
 
 /// Codes near a centre, equal to the first one, or anywhere.
@@ -127,22 +127,22 @@ fn random_lists(n: usize, number: u32, rng: &mut Random) -> Lists {
 }
 
 /// A catalogue with planted near neighbours, equal codes and equal stars, and what a search of it is lent; the tables are still empty.
-fn random_call(rng: &mut Random) -> Call {
-    let (w, s) = random_shape(rng);
-    let width = if reference::listed(w, s) { w as usize } else { 1 };
-    let tables = if reference::listed(w, s) { 64 * width / s as usize } else { 0 };
+fn random_call(w: u32, m: u32, rng: &mut Random) -> Call {
+    let listed = reference::listed(w, m);
+    let width = if listed { w as usize } else { 1 };
+    let tables = if listed { m as usize } else { 0 };
     let n = rng.pick(&[0, 1, 2, 3, 5, 17, 63, 64, 65, 130, 300]) as usize;
     let centre = words(width, rng);
     let codes = random_codes(n, width, &centre, rng);
     let stars = random_stars(n, rng);
-    let starts = vec![STALE; about(starts_of(w, s), rng)];
+    let starts = vec![STALE; about(reference::all_starts(w, m), rng)];
     let ids = vec![STALE; about(tables * n, rng)];
     let query = random_query(&codes, &centre, rng);
     let q = 64 * width as u32;
     let number = if rng.one_in(2) { random_count(n, rng) } else { random_limit(q, rng) };
     let gap = random_limit(q, rng);
     let lists = random_lists(n, number, rng);
-    Call { w, s, stars, codes, starts, ids, query, number, gap, lists }
+    Call { w, m, stars, codes, starts, ids, query, number, gap, lists }
 }
 
 /// The tables of a call as the builder writes them; in one call of three with some damage.
@@ -181,14 +181,14 @@ fn any_sky(rng: &mut Random) -> Result<u32, String> {
 }
 
 fn any_blackboard(rng: &mut Random) -> Result<u32, String> {
-    let (w, s) = random_shape(rng);
+    let (w, m) = random_shape(rng);
     let step = rng.below(64 * w as u64 + 3) as u32;
-    run_blackboard(w, s, if rng.one_in(20) { rng.next() as u32 } else { step })
+    run_blackboard(w, m, if rng.one_in(20) { rng.next() as u32 } else { step })
 }
 
 /// How many queries a batch has: a table of students, none, or on both sides of 256 where that is quick.
 fn random_queries(call: &Call, rng: &mut Random) -> Vec<u64> {
-    let most = call.stars.len() < 20 && call.s < 16 && rng.one_in(8);
+    let most = call.stars.len() < 20 && call.m > call.w.saturating_mul(5) && rng.one_in(8);
     let count = if most { 254 + rng.below(5) } else { rng.pick(&[0, 1, 2, 3, 5, 9]) };
     let entries = call.codes.chunks_exact(call.query.len().max(1));
     let mut queries = Vec::new();
@@ -211,8 +211,8 @@ fn random_results(call: &Call, words_of_queries: usize, rng: &mut Random) -> Res
     Results { marks: call.lists.marks.clone(), outcomes: vec![STALE; outcomes], records: vec![[1, 2, 3]; records] }
 }
 
-fn any_batch(rng: &mut Random) -> Result<u32, String> {
-    let mut call = random_call(rng);
+fn any_batch(w: u32, m: u32, rng: &mut Random) -> Result<u32, String> {
+    let mut call = random_call(w, m, rng);
     call.number = random_count(call.stars.len().min(12), rng);
     let call = with_tables(call, rng);
     let queries = random_queries(&call, rng);
@@ -236,23 +236,44 @@ pub fn any_call(rng: &mut Random) -> Result<u32, String> {
     match rng.below(12) {
         0 => any_sky(rng),
         1 => any_blackboard(rng),
-        2 | 3 => any_batch(rng),
         which => {
-            let call = random_call(rng);
+            let (w, m) = random_shape(rng);
+            if which < 4 {
+                return any_batch(w, m, rng);
+            }
+            let call = random_call(w, m, rng);
             run_call(which, &with_tables(call, rng))
         }
     }
 }
 
+/// Every listed w and m, and the m on both sides of them, through every function that takes a shape.
+pub fn shapes(rng: &mut Random, refusals: &mut Refusals) -> Result<(), String> {
+    let mut met = |number: u32| refusals[number as usize] += 1;
+    for w in [1, 2, 4] {
+        for m in 4 * w - 1..=16 * w + 1 {
+            for step in [0, 1, m - 1, m, m + 1, 64 * w - 1, 64 * w, 64 * w + 1] {
+                met(run_blackboard(w, m, step)?);
+            }
+            for which in 0..8 {
+                let call = random_call(w, m, rng);
+                met(run_call(which, &with_tables(call, rng))?);
+            }
+            met(any_batch(w, m, rng)?);
+        }
+    }
+    Ok(())
+}
+
 /// Calls at the border of the scope: 65,536 and 65,537 entries.
 pub fn large(rng: &mut Random, refusals: &mut Refusals) -> Result<(), String> {
-    for (w, s, n) in [(1u32, 16u32, 65536usize), (2, 16, 65536), (4, 8, 65536), (2, 16, 65537)] {
+    for (w, m, n) in [(1u32, 4u32, 65536usize), (2, 8, 65536), (2, 11, 65536), (4, 32, 65536), (2, 8, 65537)] {
         let width = w as usize;
         let codes = words(n * width, rng);
-        let m = 64 * width / s as usize;
+        let (places, tables) = (reference::all_starts(w, m), m as usize);
         let query = flipped(&codes[40 * width..41 * width], 5, rng);
         let lists = |places: usize, rng: &mut Random| Lists { marks: words(1026, rng), entries: vec![1; places + 1], distances: vec![2; places] };
-        let mut call = Call { w, s, stars: (0..n as u32).collect(), codes, starts: vec![9; m * ((1 << s) + 1) + 3], ids: vec![9; m * n + 3], query, number: 1, gap: 8, lists: lists(10, rng) };
+        let mut call = Call { w, m, stars: (0..n as u32).collect(), codes, starts: vec![9; places + 3], ids: vec![9; tables * n + 3], query, number: 1, gap: 8, lists: lists(10, rng) };
         let mut met = |number: u32| refusals[number as usize] += 1;
         met(run_build(&call)?);
         let (_, starts, ids) = reference::build(&call.index());
@@ -277,7 +298,7 @@ pub fn large(rng: &mut Random, refusals: &mut Refusals) -> Result<(), String> {
         met(run_verdict(&call)?);
         call.stars.fill(7);
         met(run_verdict(&call)?);
-        call.ids[m * n - 1] ^= 1;
+        call.ids[tables * n - 1] ^= 1;
         met(run_check(&call)?);
     }
     Ok(())
@@ -301,15 +322,15 @@ fn some_words(below: u64, rng: &mut Random) -> Vec<u64> {
 /// A call whose lengths and numbers are anything.
 fn wild(rng: &mut Random) -> Result<u32, String> {
     if rng.one_in(10) {
-        let (w, s, step) = (any_number(rng), any_number(rng), any_number(rng));
-        return run_blackboard(w, s, step);
+        let (w, m, step) = (any_number(rng), any_number(rng), any_number(rng));
+        return run_blackboard(w, m, step);
     }
     if rng.one_in(10) {
         let offsets = |rng: &mut Random| some_words(9, rng).into_iter().map(f64::from_bits).collect::<Vec<f64>>();
         let (across, up) = (offsets(rng), offsets(rng));
         return run_sky(rng.one_in(2), &across, &up);
     }
-    let (w, s) = if rng.one_in(3) { (any_number(rng), any_number(rng)) } else { (rng.pick(&[1, 2, 4]), rng.pick(&[4, 8, 16])) };
+    let (w, m) = if rng.one_in(3) { (any_number(rng), any_number(rng)) } else { random_shape(rng) };
     let stars = numbers(70, rng);
     let width = w as usize % 5;
     let codes = if rng.one_in(4) { some_words(300, rng) } else { words(stars.len() * width, rng) };
@@ -317,10 +338,10 @@ fn wild(rng: &mut Random) -> Result<u32, String> {
     let lists = Lists { marks: some_words(6, rng), entries: numbers(80, rng), distances: numbers(80, rng) };
     let (number, gap, which) = (any_number(rng), any_number(rng), rng.below(10));
     let small = |len: u64, rng: &mut Random| (0..len).map(|_| if rng.one_in(50) { rng.next() as u32 } else { rng.below(8) as u32 }).collect::<Vec<u32>>();
-    let needed = if rng.one_in(4) { 0 } else { starts_of(w, s) as u64 };
+    let needed = if rng.one_in(4) { 0 } else { reference::all_starts(w, m) as u64 };
     let (starts_len, ids_len) = (needed + rng.below(900), rng.below(4600));
     let (starts, ids) = (small(starts_len, rng), small(ids_len, rng));
-    let call = Call { w, s, stars, codes, starts, ids, query, number, gap, lists };
+    let call = Call { w, m, stars, codes, starts, ids, query, number, gap, lists };
     if which < 8 {
         return run_call(which, &call);
     }

@@ -303,7 +303,7 @@ fn later(
 // The turn at a place of the records.
 fn next<'s, 'm>(
     w: u32,
-    s: u32,
+    m: u32,
     stars: &'s [u32],
     codes: &'s [u64],
     starts: &'s [u32],
@@ -317,10 +317,10 @@ fn next<'s, 'm>(
     entries: &'m mut [u32],
     distances: &'m mut [u32],
 ) -> Step
-    requires { ⌜ Before (batch (index (shape w s) (now stars) (now codes) (now starts) (now ids)) (now queries) k (now marks) (now outcomes) places) at (now entries) (now distances) ⌝ }
-    ensures { λ r. ⌜ After (batch (index (shape w s) (now (stars .entry)) (now (codes .entry)) (now (starts .entry)) (now (ids .entry))) (now (queries .entry)) k (now (marks .entry)) (now (outcomes .entry)) places) at (now (entries .entry)) (now (distances .entry)) r (now (marks .exit)) (now (outcomes .exit)) (now (entries .exit)) (now (distances .exit)) ⌝ }
+    requires { ⌜ Before (batch (index (shape w m) (now stars) (now codes) (now starts) (now ids)) (now queries) k (now marks) (now outcomes) places) at (now entries) (now distances) ⌝ }
+    ensures { λ r. ⌜ After (batch (index (shape w m) (now (stars .entry)) (now (codes .entry)) (now (starts .entry)) (now (ids .entry))) (now (queries .entry)) k (now (marks .entry)) (now (outcomes .entry)) places) at (now (entries .entry)) (now (distances .entry)) r (now (marks .exit)) (now (outcomes .exit)) (now (entries .exit)) (now (distances .exit)) ⌝ }
 {
-    let shape = Shape { w: w, s: s };
+    let shape = Shape { w: w, m: m };
     if at == 0 {
         return begin(
             shape,
@@ -357,7 +357,7 @@ fn next<'s, 'm>(
 // The k nearest entries to each of the queries. The two scratch lists take one query's answers at a time. Proved by hand, since it is lent a list of structs: it only lends, calls and stores.
 pub fn fill<'s, 'm, 'o, 'e, 'd, 'r>(
     w: u32,
-    s: u32,
+    m: u32,
     stars: &'s [u32],
     codes: &'s [u64],
     starts: &'s [u32],
@@ -371,14 +371,14 @@ pub fn fill<'s, 'm, 'o, 'e, 'd, 'r>(
     records: &'r mut [Answer],
 ) -> u32
     requires { ⌜ Scratch k (now entries) (now distances) ⌝ }
-    ensures { λ r. ⌜ (fills r (now (marks .exit)) (now (outcomes .exit)) (now (records .exit)), now (entries .exit), now (distances .exit)) ≡ fillEnd (batch (index (shape w s) (now (stars .entry)) (now (codes .entry)) (now (starts .entry)) (now (ids .entry))) (now (queries .entry)) k (now (marks .entry)) (now (outcomes .entry)) (length (now (records .entry)))) (now (entries .entry)) (now (distances .entry)) (now (records .entry)) ⌝ }
+    ensures { λ r. ⌜ (fills r (now (marks .exit)) (now (outcomes .exit)) (now (records .exit)), now (entries .exit), now (distances .exit)) ≡ fillEnd (batch (index (shape w m) (now (stars .entry)) (now (codes .entry)) (now (starts .entry)) (now (ids .entry))) (now (queries .entry)) k (now (marks .entry)) (now (outcomes .entry)) (length (now (records .entry)))) (now (entries .entry)) (now (distances .entry)) (now (records .entry)) ⌝ }
 {
     let mut number: u32 = 0;
     let mut i: usize = 0;
     loop {
         let step = next(
             w,
-            s,
+            m,
             stars,
             codes,
             starts,

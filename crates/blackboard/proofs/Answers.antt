@@ -37,7 +37,7 @@ module _ (sh : Shape) (R : ℕ) where
 
 -- ---- what is counted
 
--- for every listed w and s, and whatever is asked over them: the blackboard's count is the one that a search of steps 0 to R reports
+-- for every listed w and m, and whatever is asked over them: the blackboard's count is the one that a search of steps 0 to R reports
 pub counts : (ask : Question) (R : ℕ) → listed (ask .index .shape) ≡ true → R ≤ q (ask .index .shape)
     → blackboardAnswer (ask .index .shape) R ≡ Buckets (openedCount ask (R + 1))
 counts ask R h l = answered (ask .index .shape) R h l ∙ ap (λ (k : ℕ). Buckets (record { 0 = k })) (sym (open-after ask R h))

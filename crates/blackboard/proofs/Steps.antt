@@ -1,45 +1,34 @@
--- What holds of a step R of a listed shape, with t tables: R = t * r + a. Assumes nothing.
-use mathlib.Core.Path.{_≡_, ap}
-use mathlib.Core.Bool.{true}
-use Prim.Native.Nat.{ℕ, _+_, _-_, _*_, _/_, _%_, _≤_, _<_}
-use native.Mathlib.Nat.{mod-lt, div-lt-iff-lt-mul, mul-le-mul, le-of-suc-le-suc}
+-- What holds of a step R of a listed shape: its radius is in the square table, and a table has few buckets open. Assumes nothing.
+use mathlib.Core.Path.{_≡_, sym, ap, ap₂, _∙_}
+use mathlib.Core.Bool.{true, cond}
+use Prim.Native.Nat.{ℕ, _+_, _/_, _%_, _≤_}
+use native.Mathlib.Nat.{div-lt-iff-lt-mul, le-of-suc-le-suc}
+use native.Mathlib.Numerals.{add-one}
 use native.Mathlib.Omega.{arith}
+use lib.Dec.{leb}
 use lib.Pow.{pow-mono}
-use Rattle.theory.specs.Binomials.{L}
-use Rattle.theory.proofs.Sums.{sum-const}
+use Rattle.theory.specs.Lists.{sum}
+use Rattle.theory.proofs.Sums.{sum-suc, sum-le}
 use Rattle.theory.proofs.Masks.{L-le}
 use Rattle.scope.specs.declared.Shape.{Shape}
 use Rattle.scope.specs.Shape.{q, listed, m, len}
-use Rattle.scope.specs.Walk.{openAfter}
+use Rattle.scope.specs.Walk.{openIn}
 use Rattle.scope.proofs.Shapes.{facts}
 
-pub record Step (sh : Shape) (R t : ℕ) : Type 0 where
-  pub some-tables : 0 < t
-  pub few-tables : t ≤ 64
-  pub few-bits : sh .s ≤ 16
-  pub radius : R / t ≤ sh .s
-  pub table : R % t < t
+module _ (sh : Shape) (R : ℕ) (h : listed sh ≡ true) where
+  pub few-radii : R ≤ q sh → R / m sh ≤ 16
+  few-radii l =
+      let f = facts sh h in
+      le-of-suc-le-suc ((div-lt-iff-lt-mul (f .some-tables)) .1 (omega (arith, f .some-tables, f .whole, sum-le (len sh) 16 (m sh) (λ z _. f .few-bits z))))
 
-pub step-of : (sh : Shape) (R t : ℕ) → listed sh ≡ true → R ≤ q sh → t ≡ m sh → Step sh R t
-unfolding len
-step-of sh R t h hR e =
-    let f = facts sh h in
-    let some : 0 < t = omega (arith, f .some-tables) in
-    record {
-      some-tables = some;
-      few-tables = omega (arith, f .few-tables);
-      few-bits = f .few-bits 0;
-      radius = le-of-suc-le-suc ((div-lt-iff-lt-mul some) .1 (omega (arith, f .whole, sum-const (sh .s) (m sh), ap (λ (n : ℕ). n * sh .s) e)));
-      table = mod-lt R some;
-    }
+  few-open : (z : ℕ) → openIn sh R z ≤ 65536
+  few-open z =
+      let f = facts sh h in
+      omega (arith, L-le (len sh z) (cond (leb z (R % m sh)) (R / m sh + 1) (R / m sh)), pow-mono (f .few-bits z))
 
--- a product of the formula is small
-pub product-le : {sh : Shape} {R t : ℕ} (n k x : ℕ) → Step sh R t → n ≤ t → x ≡ L (sh .s) k → n * x ≤ 4194304
-product-le {sh} n k x f h e =
-    mul-le-mul (let l : n ≤ 64 = omega arith in l) (let l : x ≤ 65536 = omega (arith, L-le (sh .s) k, pow-mono (f .few-bits)) in l)
+  -- one table more, and still few
+  pub more : (z x y : ℕ) → x ≡ sum (openIn sh R) z → y ≡ openIn sh R z → x + y ≡ sum (openIn sh R) (z + 1)
+  more z x y e g = ap₂ (λ (a b : ℕ). a + b) e g ∙ sym (ap (sum (openIn sh R)) (add-one z) ∙ sum-suc (openIn sh R) z)
 
--- the formula, with t for the number of tables
-pub formula : (sh : Shape) (R t x y : ℕ) → t ≡ m sh → x ≡ L (sh .s) (R / t + 1) → y ≡ L (sh .s) (R / t)
-    → (R % t + 1) * x + (t - R % t - 1) * y ≡ openAfter sh R
-unfolding openAfter
-formula sh R t x y e ex ey = cc
+  pub small : (z : ℕ) → z ≤ 64 → sum (openIn sh R) z ≤ 4194304
+  small z l = omega (arith, sum-le (openIn sh R) 65536 z (λ z _. few-open z))

@@ -1,4 +1,5 @@
 // Prints the blackboard's count: steps of catalogue A, the last step of each shape, and refused calls.
+ghost use Prim.Native.Nat.{_≤_};
 use libc::STDOUT_FILENO;
 use scope::Blackboard;
 use scope::Shape;
@@ -9,11 +10,11 @@ fn print(label: &[u8], n: u32) {
 }
 
 // A line for one call: what it is asked, and what it answers.
-fn ask(w: u32, s: u32, step: u32) {
+fn ask(w: u32, m: u32, step: u32) {
     print(b"w ", w);
-    print(b" s ", s);
+    print(b" m ", m);
     print(b" step ", step);
-    let shape = Shape { w: w, s: s };
+    let shape = Shape { w: w, m: m };
     match blackboard::count(shape, step) {
         Blackboard::Buckets(opened) => print(b": ", opened.0),
         Blackboard::Refused(refusal) => print(b": refused ", refusal.number()),
@@ -22,10 +23,12 @@ fn ask(w: u32, s: u32, step: u32) {
 }
 
 // The last step of the shapes with codes of w words, q bits.
-fn last_steps(w: u32, q: u32) {
-    ask(w, 4, q);
-    ask(w, 8, q);
-    ask(w, 16, q);
+fn last_steps(w: u32, q: u32)
+    requires { ⌜ w ≤ 4 ⌝ }
+{
+    ask(w, 16 * w, q);
+    ask(w, 8 * w, q);
+    ask(w, 4 * w, q);
 }
 
 fn main() {
@@ -38,8 +41,15 @@ fn main() {
     last_steps(1, 64);
     last_steps(2, 128);
     last_steps(4, 256);
+    ask(2, 11, 0);
+    ask(2, 11, 10);
+    ask(2, 11, 17);
+    ask(2, 11, 18);
+    ask(2, 11, 128);
+    ask(4, 63, 256);
     ask(1, 8, 65);
-    ask(3, 8, 0);
-    ask(1, 5, 0);
+    ask(3, 24, 0);
+    ask(1, 3, 0);
+    ask(1, 17, 0);
     ask(1, 8, 4294967295);
 }

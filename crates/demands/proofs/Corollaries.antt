@@ -2,18 +2,19 @@
 -- are the first of those within D, and cost the same buckets. Assumes nothing.
 use mathlib.Core.Path.{_≡_, refl, sym, ap, _∙_}
 use mathlib.Core.Logic.{⊎-elim}
-use mathlib.Core.Bool.{_&&_}
+use mathlib.Core.Bool.{_&&_, cond}
 use mathlib.Core.List.{List, [], _∷_}
-use Prim.Native.Nat.{ℕ, _+_, _-_, _*_, _≤_, _<_, zero-le}
+use Prim.Native.Nat.{ℕ, _+_, _*_, _≤_, _<_, zero-le}
 use native.Mathlib.Nat.{eq-or-lt-of-le}
 use native.Mathlib.Numerals.{add-one}
 use native.Mathlib.Omega.{arith}
-use lib.Dec.{ltb}
+use lib.Dec.{ltb, leb}
 use lib.ListN.{length, getD, take}
 use lib.Seq.{take-append-le}
-use borrow.Author.Tests.{lt-ltb}
+use borrow.Author.Tests.{lt-ltb, lt-leb}
 use Rattle.theory.specs.Lists.{sum, ranked}
 use Rattle.theory.specs.Binomials.{binomial, L}
+use Rattle.theory.proofs.Sums.{sum-at}
 use Rattle.theory.proofs.Counting.{count-less}
 use Rattle.theory.proofs.Order.{ranked-front}
 use Rattle.theory.proofs.Placing.{all, length-ranked}
@@ -23,7 +24,7 @@ use Rattle.scope.specs.declared.Verdict.the-variants.{None}
 use Rattle.scope.specs.declared.VerdictReport.{VerdictReport}
 use Rattle.scope.specs.declared.Judged.the-variants.{Given}
 use Rattle.scope.specs.Codes.{codeOf}
-use Rattle.scope.specs.Shape.{q, m}
+use Rattle.scope.specs.Shape.{q, m, len}
 use Rattle.scope.specs.Tables.{n}
 use Rattle.scope.specs.Walk.{Question, distanceOf}
 use Rattle.scope.specs.Search.{K, nearestSteps, withinSteps}
@@ -53,9 +54,10 @@ take-one : (l : List ℕ) → 0 < length l → take 1 l ≡ getD l 0 0 ∷ []
 take-one [] h = absurd (omega arith)
 take-one (a ∷ l) h = refl
 
-one-bucket : (s m : ℕ) → (0 + 1) * L s (0 + 1) + (m - 0 - 1) * L s 0 ≡ 1
+-- step 0 opens one bucket, of table 0
+one-bucket : (len : ℕ → ℕ) (m : ℕ) → 0 < m → sum (λ z. L (len z) (cond (leb z 0) (0 + 1) 0)) m ≡ 1
 unfolding sum binomial
-one-bucket s m = omega arith
+one-bucket len m h = sum-at (λ z. L (len z) (cond (leb z 0) (0 + 1) 0)) 0 m (λ z _ ne. rw (lt-leb z 0 (omega arith))) h
 
 -- ---- a query that is some entry's code: the nearest is at distance 0, after one bucket
 
@@ -70,7 +72,8 @@ exact-match c i such entry equal =
     let one : K x 1 ≡ 1 = omega arith in
     let zero-there : distanceOf ask i ≡ 0 = rw equal (distance-self (q sh) (ask .query)) in
     let D : kthDistance ask (K x 1) ≡ m sh * 0 + 0 = ap (kthDistance ask) one ∙ kth-zero ask i entry zero-there ∙ omega arith in
-    let (rep, listed, opened) = demand-3 c 1 such (omega arith) 0 0 (facts sh (nearest-ready c 1 such .shape) .some-tables) D .1 in
+    let some = facts sh (nearest-ready c 1 such .shape) .some-tables in
+    let (rep, listed, opened) = demand-3 c 1 such (omega arith) 0 0 some D .1 in
     let all = nearest-lists c 1 such in
     let first : take (K x 1) (everyEntry ask) ≡ getD (everyEntry ask) 0 0 ∷ [] =
     ap (λ (k : ℕ). take k (everyEntry ask)) one ∙ take-one (everyEntry ask) (omega (arith, length-every ask)) in
@@ -78,7 +81,7 @@ exact-match c i such entry equal =
       rep,
       listed,
       ap (λ (r : Report). r .answers) (sym same) ∙ all .answers ∙ ap length first,
-      opened ∙ one-bucket (sh .s) (m sh),
+      opened ∙ one-bucket (len sh) (m sh) some,
       rw first at (all .distances) ∙ ap (λ (d : ℕ). d ∷ []) (kth-zero ask i entry zero-there),
     )
 

@@ -1,15 +1,14 @@
 -- Demand 3, the count: over trusted tables the search for the k nearest opens the buckets of the blackboard, each once, and reports their number. Assumes nothing.
 use mathlib.Core.Path.{_≡_, sym, ap, _∙_}
 use mathlib.Core.Logic.{inl, inr, ⊎-elim}
-use mathlib.Core.Bool.{true, _&&_, and-true, and-false}
-use Prim.Native.Nat.{ℕ, suc, _+_, _-_, _*_, _^_, _≤_, _<_}
+use mathlib.Core.Bool.{true, _&&_, and-true, and-false, cond}
+use Prim.Native.Nat.{ℕ, suc, _+_, _-_, _*_, _/_, _%_, _^_, _≤_, _<_}
 use native.Mathlib.Omega.{arith}
-use lib.Arith.{digits-div, digits-mod}
 use lib.Count.{ones}
 use lib.Dec.{ltb, leb}
 use lib.ListN.{length}
 use borrow.Author.Tests.{lt-ltb, le-ltb}
-use Rattle.theory.specs.Lists.{any, count, is}
+use Rattle.theory.specs.Lists.{sum, any, count, is}
 use Rattle.theory.specs.Binomials.{L}
 use Rattle.theory.proofs.Radii.{by-radius}
 use Rattle.theory.proofs.Tests.{lt-or-le, oneIf, oneIf-positive, leb-is-ltb}
@@ -17,7 +16,7 @@ use Rattle.theory.proofs.Counting.{count-cong}
 use Rattle.theory.proofs.Placing.{all, lower-all}
 use Rattle.theory.proofs.Times.{times, any-times}
 use Rattle.theory.proofs.Opening.{opened-once, opened-none}
-use Rattle.scope.specs.Shape.{listed, m, firstBit, len, size}
+use Rattle.scope.specs.Shape.{q, listed, m, firstBit, len, size}
 use Rattle.scope.specs.Tables.{n}
 use Rattle.scope.specs.declared.Report.{Report}
 use Rattle.scope.specs.declared.Found.the-variants.{Listed}
@@ -25,7 +24,7 @@ use Rattle.scope.specs.Walk.{Question, distanceOf, openAfter, opened, testedCou
 use Rattle.scope.specs.Search.{K, nearestSteps, withinSteps}
 use Rattle.scope.specs.Calls.{Asked, room, report, nearestEnd, withinEnd, searchEnd}
 use Rattle.scope.proofs.Shapes.{facts}
-use Rattle.scope.proofs.Opening.{asks, opened-by, open-after}
+use Rattle.scope.proofs.Opening.{asks, opened-by, open-after, open-at, open-at-equal}
 use Rattle.scope.proofs.Steps.{within-some}
 use Rattle.scope.proofs.Codes.{substring-lt}
 use Rattle.demands.specs.Neighbours.{neighbours, kthDistance}
@@ -99,19 +98,29 @@ module _ (c : Asked) (k : ℕ) (such : NearestCall c k) (some : 0 < K (c .questi
       nearest-answer c k such ∙ rw (number, length-first ask k)
 
   -- DEMAND 3: with D = m·r + a the search opens the buckets within r bits of the query in tables 0 to a, those within r − 1 bits in the rest, each once
-  -- and no other, and reports exactly that many
+  -- and no other, and reports exactly that many: a sum over the tables, each with its own length
   pub demand-3 : let ask = c .question in
       let sh = ask .index .shape in
       (r a : ℕ) → a < m sh → kthDistance ask (K (ask .index) k) ≡ m sh * r + a
       → ((z v : ℕ) → times (is z v) (opened ask (nearestSteps ask k)) ≡ oneIf (inRadius ask r a z v))
-      × ((rep : Report) × (nearestEnd c k .answer ≡ Listed rep) × (rep .opened .0 ≡ (a + 1) * L (sh .s) (r + 1) + (m sh - a - 1) * L (sh .s) r))
-  unfolding openAfter
+      × ((rep : Report) × (nearestEnd c k .answer ≡ Listed rep) × (rep .opened .0 ≡ sum (λ z. L (len sh z) (cond (leb z a) (r + 1) r)) (m sh)))
   demand-3 r a ha e =
       let ask = c .question in
       let sh = ask .index .shape in
       let known = nearest-ready c k such in
       let D : kthDistance ask (K (ask .index) k) ≡ r * m sh + a = omega arith in
-      (λ z v. rw (steps-are, e) (opened-radii ask (known .shape) r a z v ha), (_, count-is, rw (D, digits-div r ha, digits-mod r ha)))
+      (λ z v. rw (steps-are, e) (opened-radii ask (known .shape) r a z v ha), (_, count-is, ap (openAfter sh) D ∙ open-at sh r a ha))
+
+  -- where m divides q, with s = q/m, that is 01's formula
+  pub demand-3-equal : let ask = c .question in
+      let sh = ask .index .shape in
+      let s = q sh / m sh in
+      (r a : ℕ) → a < m sh → q sh % m sh ≡ 0 → kthDistance ask (K (ask .index) k) ≡ m sh * r + a
+      → (rep : Report) × (nearestEnd c k .answer ≡ Listed rep) × (rep .opened .0 ≡ (a + 1) * L s (r + 1) + (m sh - a - 1) * L s r)
+  demand-3-equal r a ha whole e =
+      let sh = c .question .index .shape in
+      let D : kthDistance (c .question) (K (c .question .index) k) ≡ r * m sh + a = omega arith in
+      (_, count-is, ap (openAfter sh) D ∙ open-at-equal sh r a ha whole)
 
 -- the search within r opens what the steps 0 to r open, and reports the blackboard's count after step r
 pub within-count : (c : Asked) (r : ℕ) → WithinCall c r → let ask = c .question in

@@ -17,7 +17,7 @@ use Rattle.scope.specs.Calls.{Asked, room, handed, buildEnd, checkAnswer}
 abbrev pub NoneFits : Rows → Type 0
 NoneFits rows = any (λ (row : Bool × Refusal). row .0) rows ≡ false
 
--- the tables are such as our builder wrote, or our check passed, for the same codes, w and s; star numbers play no part and may have been others
+-- the tables are such as our builder wrote, or our check passed, for the same codes, w and m; star numbers play no part and may have been others
 pub data Trusted (x : Index) : Type 0 where
   written : (stars starts ids : List ℕ) → buildEnd (index (x .shape) stars (x .codes) starts ids) .answer ≡ built.Done
       → x .starts ≡ buildEnd (index (x .shape) stars (x .codes) starts ids) .starts

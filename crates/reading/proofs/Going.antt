@@ -1,19 +1,19 @@
 -- What is known where a record is neither the end nor bad: the session's count, the record's bounds, and what its kind asks. Assumes nothing.
 use mathlib.Core.Path.{_≡_, refl, ap, sym, _∙_}
 use mathlib.Core.Bool.{false, _&&_, _||_}
-use mathlib.Core.List.{List}
-use mathlib.Core.Logic.{_⊎_, inl, inr}
+use mathlib.Core.List.{List, [], _∷_}
+use mathlib.Core.Logic.{_⊎_, inl, inr, ⊎-elim}
 use Prim.Native.Nat.{ℕ, _+_, _*_, _/_, _%_, _≤_, _<_}
 use native.Mathlib.Omega.{arith}
 use lib.Dec.{eqb, leb}
 use lib.ListN.{length, getD, take, drop, length-take, length-drop}
 use lib.Ieee.{binary64, ofBits}
-use borrow.Author.Tests.{leb-false, eqb-true, eqb-false}
-use Rattle.theory.proofs.Tests.{split, both-ways, or-false-left, or-false-right}
+use borrow.Author.Tests.{leb-true, leb-false, eqb-true, eqb-false}
+use Rattle.theory.proofs.Tests.{split, both-ways, or-true, and-left, and-right, or-false-left, or-false-right}
 use Rattle.theory.proofs.Lists.{tab-cong}
 use Rattle.scope.specs.declared.Unit.{Unit}
 use Rattle.reading.specs.Bytes.{numberAt}
-use Rattle.reading.specs.Records.{frontOf, byFront, recordOf, meaningOf, headIn, entryIn, questionIn, wanted, chunkOf, ends}
+use Rattle.reading.specs.Records.{frontOf, byFront, recordOf, meaningOf, headOf, entryIn, questionIn, wanted, chunkOf, ends}
 use Rattle.reading.specs.Offsets.{anglesAt, acrossOf, upOf}
 use Rattle.reading.specs.declared.Session.{Session}
 use Rattle.reading.specs.declared.Front.{Front}
@@ -72,7 +72,7 @@ asks (Sky u n) = 6
 abbrev sort : Record → ℕ
 sort Over = 0
 sort Bad = 0
-sort (Head w) = 1
+sort (Head w m) = 1
 sort (Entry star code) = 2
 sort (Ask question) = asks question
 
@@ -80,19 +80,37 @@ sort (Ask question) = asks question
 differ : {P : Type 0} (x y : Record) → x ≡ y → (sort x ≡ sort y → ⊥) → P
 differ x y e h = absurd (h (ap sort e))
 
+-- a head is bad, or what it names
+head-cases : {P : Type 0} (w t : ℕ) (m : Record) → headOf w t ≡ m → (Bad ≡ m → P) → ((w ≡ 1) ⊎ (w ≡ 2) → 8 * w ≤ t → t ≤ 16 * w → Head w t ≡ m → P) → P
+head-cases w t m h bad head =
+    let words = eqb w 1 || eqb w 2 in
+    let low = leb (64 * w / 8) t in
+    let high = leb t (64 * w / 4) in
+    split (words && (low && high)) _ _ m h
+    (λ e f.
+    let both = and-right words (low && high) e in
+    let l = leb-true (64 * w / 8) t (and-left low high both) in
+    let u = leb-true t (64 * w / 4) (and-right low high both) in
+    head (⊎-elim (λ a. inl (eqb-true w 1 a)) (λ a. inr (eqb-true w 2 a)) (or-true (eqb w 1) (eqb w 2) (and-left words (low && high) e))) (omega arith) (omega arith) f)
+    (λ _ f. bad f)
+
 module _ (session : Session) (kind : ℕ) (b : List ℕ) (m : Record) where
-  meaning-cases : {P : Type 0} → meaningOf session kind b ≡ m → (session .words ≡ 0 → headIn b ≡ m → P) → (Bad ≡ m → P)
+  meaning-cases : {P : Type 0} → meaningOf session kind b ≡ m → ((w t : ℕ) → session .words ≡ 0 → headOf w t ≡ m → P) → (Bad ≡ m → P)
       → ((session .words ≡ 0 → ⊥) → session .asked ≡ false → session .entries < 512 → entryIn (session .words) b ≡ m → P)
       → ((session .words ≡ 0 → ⊥) → questionIn (session .words) kind b ≡ m → P) → P
   unfolding meaningOf
   meaning-cases h head bad entry question =
       split (eqb kind 1) _ _ m h
-      (λ k e. split (eqb (session .words) 0) _ _ m e (λ z f. head (eqb-true _ _ z) f) (λ z f. bad f))
+      (λ k e. split (eqb (session .words) 0) _ _ m e
+      (λ z f. split (eqb (length b) 2 && eqb (getD b 1 0) 8) _ _ m f (λ t g. head (getD b 0 0) (64 * getD b 0 0 / 8) (eqb-true _ _ z) g) (λ t g. bad g)) (λ z f. bad f))
+      (λ k e. split (eqb kind 7) _ _ m e
+      (λ k e. split (eqb (session .words) 0) _ _ m e
+      (λ z f. split (eqb (length b) 2) _ _ m f (λ t g. head (getD b 0 0) (getD b 1 0) (eqb-true _ _ z) g) (λ t g. bad g)) (λ z f. bad f))
       (λ k e. split (eqb (session .words) 0) _ _ m e (λ z f. bad f)
       (λ z f. split (eqb kind 2) _ _ m f
       (λ two g. split (session .asked || leb 512 (session .entries)) _ _ m g (λ t i. bad i)
       (λ t i. entry (eqb-false _ _ z) (or-false-left (session .asked) (leb 512 (session .entries)) t) (leb-false 512 (session .entries) (or-false-right (session .asked) (leb 512 (session .entries)) t)) i))
-      (λ two g. question (eqb-false _ _ z) g)))
+      (λ two g. question (eqb-false _ _ z) g))))
 
   question-cases : {P : Type 0} (w : ℕ) → questionIn w kind b ≡ m → (Bad ≡ m → P) → ((q : Question) → asks q < 6 → 2 < asks q → Ask q ≡ m → P)
       → ((u : Unit) → length b % 16 ≡ 1 → Ask (Sky u (length b / 16)) ≡ m → P) → P
@@ -107,21 +125,25 @@ module _ (session : Session) (kind : ℕ) (b : List ℕ) (m : Record) where
       (λ t j. bad j))
       (λ k i. bad i))))
 
+-- kind 1's head says what kind 7's says with m = q/8
+pub same-head : (session : Session) (w : ℕ) → meaningOf session 1 (w ∷ 8 ∷ []) ≡ meaningOf session 7 (w ∷ 64 * w / 8 ∷ [])
+unfolding meaningOf
+same-head session w = refl
+
 module _ (session : Session) (kind : ℕ) (b : List ℕ) where
   -- no question and no entry is a head
-  head-means : (w : ℕ) → meaningOf session kind b ≡ Head w → (session .words ≡ 0) × ((w ≡ 1) ⊎ (w ≡ 2))
-  head-means w h =
-      meaning-cases session kind b (Head w) h
-      (λ z e. (
+  head-means : (w t : ℕ) → meaningOf session kind b ≡ Head w t → (session .words ≡ 0) × (((w ≡ 1) ⊎ (w ≡ 2)) × (8 * w ≤ t) × (t ≤ 16 * w))
+  head-means w t h =
+      let m = Head w t in
+      meaning-cases session kind b m h
+      (λ v u z e. (
         z,
-        split (eqb (length b) 2 && eqb (getD b 1 0) 8) _ _ (Head w) e
-            (λ t f. split (eqb (getD b 0 0) 1) _ _ (Head w) f (λ u g. inl (sym (cc)))
-            (λ u g. split (eqb (getD b 0 0) 2) _ _ (Head w) g (λ v i. inr (sym (cc))) (λ v i. differ _ _ i (λ k. omega arith))))
-            (λ t f. differ _ _ f (λ k. omega arith)),
+        head-cases v u m e (λ f. differ _ _ f (λ k. omega arith))
+            (λ one low high f. let p : v ≡ w = cc in let q : u ≡ t = cc in (rw p at one, omega arith, omega arith)),
       ))
       (λ e. differ _ _ e (λ k. omega arith))
-      (λ z a n e. split (eqb (length b) (4 + 8 * session .words)) _ _ (Head w) e (λ t f. differ _ _ f (λ k. omega arith)) (λ t f. differ _ _ f (λ k. omega arith)))
-      (λ z e. question-cases session kind b (Head w) (session .words) e (λ f. differ _ _ f (λ k. omega arith)) (λ q s l f. differ _ _ f (λ k. omega arith))
+      (λ z a n e. split (eqb (length b) (4 + 8 * session .words)) _ _ m e (λ t f. differ _ _ f (λ k. omega arith)) (λ t f. differ _ _ f (λ k. omega arith)))
+      (λ z e. question-cases session kind b m (session .words) e (λ f. differ _ _ f (λ k. omega arith)) (λ q s l f. differ _ _ f (λ k. omega arith))
       (λ u t f. differ _ _ f (λ k. omega arith)))
 
   entry-means : (star : ℕ) (code : Code) → meaningOf session kind b ≡ Entry star code
@@ -129,10 +151,7 @@ module _ (session : Session) (kind : ℕ) (b : List ℕ) where
   entry-means star code h =
       let m = Entry star code in
       meaning-cases session kind b m h
-      (λ z e. split (eqb (length b) 2 && eqb (getD b 1 0) 8) _ _ m e
-      (λ t f. split (eqb (getD b 0 0) 1) _ _ m f (λ u g. differ _ _ g (λ k. omega arith))
-      (λ u g. split (eqb (getD b 0 0) 2) _ _ m g (λ v i. differ _ _ i (λ k. omega arith)) (λ v i. differ _ _ i (λ k. omega arith))))
-      (λ t f. differ _ _ f (λ k. omega arith)))
+      (λ w t z e. head-cases w t m e (λ f. differ _ _ f (λ k. omega arith)) (λ _ _ _ f. differ _ _ f (λ k. omega arith)))
       (λ e. differ _ _ e (λ k. omega arith))
       (λ z a n e. (z, a, n))
       (λ z e. question-cases session kind b m (session .words) e (λ f. differ _ _ f (λ k. omega arith)) (λ q s l f. differ _ _ f (λ k. omega arith))
@@ -142,10 +161,7 @@ module _ (session : Session) (kind : ℕ) (b : List ℕ) where
   ask-means q some h =
       let m = Ask q in
       meaning-cases session kind b m h
-      (λ z e. split (eqb (length b) 2 && eqb (getD b 1 0) 8) _ _ m e
-      (λ t f. split (eqb (getD b 0 0) 1) _ _ m f (λ u g. differ _ _ g (λ k. omega arith))
-      (λ u g. split (eqb (getD b 0 0) 2) _ _ m g (λ v i. differ _ _ i (λ k. omega arith)) (λ v i. differ _ _ i (λ k. omega arith))))
-      (λ t f. differ _ _ f (λ k. omega arith)))
+      (λ w t z e. head-cases w t m e (λ f. differ _ _ f (λ k. omega arith)) (λ _ _ _ f. differ _ _ f (λ k. omega arith)))
       (λ e. differ _ _ e (λ k. omega arith))
       (λ z a n e. split (eqb (length b) (4 + 8 * session .words)) _ _ m e (λ t f. differ _ _ f (λ k. omega arith)) (λ t f. differ _ _ f (λ k. omega arith)))
       (λ z e. (z, e))
@@ -166,8 +182,8 @@ some-asks (Sky u n) = omega arith
 -- ---- the same of the record at the front of s
 
 module _ (session : Session) (s : List ℕ) where
-  pub head-first : (w : ℕ) → recordOf session s ≡ Head w → (session .words ≡ 0) × ((w ≡ 1) ⊎ (w ≡ 2))
-  head-first w e = head-means session _ _ w (sym (goes session s (ap ends e) .means) ∙ e)
+  pub head-first : (w m : ℕ) → recordOf session s ≡ Head w m → (session .words ≡ 0) × (((w ≡ 1) ⊎ (w ≡ 2)) × (8 * w ≤ m) × (m ≤ 16 * w))
+  head-first w m e = head-means session _ _ w m (sym (goes session s (ap ends e) .means) ∙ e)
 
   pub entry-next : (star : ℕ) (code : Code) → recordOf session s ≡ Entry star code
       → (session .words ≡ 0 → ⊥) × (session .asked ≡ false) × (session .entries < 512)

@@ -42,12 +42,17 @@ restOf s = drop (4 + wanted s) s
 abbrev pub codeAt : ℕ → List ℕ → ℕ → Code
 codeAt w b at = record { low = numberAt 8 b at; high = cond (eqb w 2) (numberAt 8 b (at + 8)) 0 }
 
--- 1 head: w, s, one byte each; w 1 or 2, s 8
+-- a head: w is 1 or 2, and m from q/8 to q/4
+abbrev pub headOf : ℕ → ℕ → Record
+headOf w m = cond ((eqb w 1 || eqb w 2) && (leb (64 * w / 8) m && leb m (64 * w / 4))) (Head w m) Bad
+
+-- 1 head: w, s, one byte each; s 8, so that m is q/8
 abbrev pub headIn : List ℕ → Record
-headIn b =
-    cond (eqb (length b) 2 && eqb (getD b 1 0) 8)
-    (cond (eqb (getD b 0 0) 1) (Head 1) (cond (eqb (getD b 0 0) 2) (Head 2) Bad))
-    Bad
+headIn b = cond (eqb (length b) 2 && eqb (getD b 1 0) 8) (headOf (getD b 0 0) (64 * getD b 0 0 / 8)) Bad
+
+-- 7 head: w, m, one byte each
+abbrev pub tablesHeadIn : List ℕ → Record
+tablesHeadIn b = cond (eqb (length b) 2) (headOf (getD b 0 0) (getD b 1 0)) Bad
 
 -- 2 entry: star 4 bytes, code
 abbrev pub entryIn : ℕ → List ℕ → Record
@@ -84,9 +89,10 @@ questionIn w kind b =
 unfoldable pub meaningOf : Session → ℕ → List ℕ → Record
 meaningOf session kind b =
     cond (eqb kind 1) (cond (eqb (session .words) 0) (headIn b) Bad)
+    (cond (eqb kind 7) (cond (eqb (session .words) 0) (tablesHeadIn b) Bad)
     (cond (eqb (session .words) 0) Bad
     (cond (eqb kind 2) (cond (session .asked || leb 512 (session .entries)) Bad (entryIn (session .words) b))
-    (questionIn (session .words) kind b)))
+    (questionIn (session .words) kind b))))
 
 abbrev pub byFront : Session → List ℕ → Front → Record
 byFront session s End = Over
@@ -102,6 +108,6 @@ recordOf session s = byFront session s (frontOf s)
 abbrev pub ends : Record → Bool
 ends Over = true
 ends Bad = true
-ends (Head w) = false
+ends (Head w m) = false
 ends (Entry star code) = false
 ends (Ask question) = false

@@ -6,7 +6,7 @@ use Rattle.reading.specs.declared.Record.{Record}
 use Rattle.reading.specs.declared.Record.the-variants.{Over, Bad, Head, Entry, Ask}
 
 abbrev pub startOf : Session
-startOf = record { records = 0; words = 0; entries = 0; asked = false }
+startOf = record { records = 0; words = 0; tables = 0; entries = 0; asked = false }
 
 -- the next record's number; no session has more than 65,535 records before it
 abbrev pub numberOf : Session → ℕ
@@ -16,7 +16,7 @@ numberOf session = min (session .records) 65535 + 1
 abbrev pub nextOf : Session → Record → Session
 nextOf session Over = session
 nextOf session Bad = session
-nextOf session (Head w) = record { records = numberOf session; words = w; entries = session .entries; asked = session .asked }
+nextOf session (Head w m) = record { records = numberOf session; words = w; tables = m; entries = session .entries; asked = session .asked }
 nextOf session (Entry star code) =
-    record { records = numberOf session; words = session .words; entries = session .entries + 1; asked = session .asked }
-nextOf session (Ask question) = record { records = numberOf session; words = session .words; entries = session .entries; asked = true }
+    record { records = numberOf session; words = session .words; tables = session .tables; entries = session .entries + 1; asked = session .asked }
+nextOf session (Ask question) = record { records = numberOf session; words = session .words; tables = session .tables; entries = session .entries; asked = true }

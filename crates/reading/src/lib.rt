@@ -1,11 +1,13 @@
 // A session's records, from bytes to what they mean. No input and no output.
 ghost use mathlib.Core.Path.{_≡_};
 ghost use Prim.Native.Nat.{_+_, _*_, _≤_, _<_};
+ghost use mathlib.Core.Bool.{_||_};
+ghost use lib.Dec.{eqb};
 ghost use lib.ListN.{length};
 ghost use lib.Ieee.{binary64, ofBits};
 ghost use Rattle.theory.specs.Lists.{over};
 ghost use Rattle.reading.specs.Bytes.{numberAt};
-ghost use Rattle.reading.specs.Records.{frontOf, wanted, codeAt, headIn, entryIn, nearestIn, withinIn, verdictIn, skyIn, questionIn, meaningOf, recordOf};
+ghost use Rattle.reading.specs.Records.{frontOf, wanted, codeAt, headOf, headIn, tablesHeadIn, entryIn, nearestIn, withinIn, verdictIn, skyIn, questionIn, meaningOf, recordOf};
 ghost use Rattle.reading.specs.State.{startOf, numberOf, nextOf};
 ghost use Rattle.reading.specs.Offsets.{anglesAt, acrossOf, upOf};
 use scope::Unit;
@@ -21,10 +23,11 @@ const ACROSS: usize = 5;
 
 const UP: usize = 13;
 
-// What a session has read: how many records, the head's w (0 before the head), how many entries, and whether a question came.
+// What a session has read: how many records, the head's w and m (0 before the head), how many entries, and whether a question came.
 pub struct Session {
     pub records: u32,
     pub words: u32,
+    pub tables: u32,
     pub entries: u32,
     pub asked: bool,
 }
@@ -55,7 +58,7 @@ pub enum Question {
 pub enum Record {
     Over,
     Bad,
-    Head(u32),
+    Head(u32, u32),
     Entry(u32, Code),
     Ask(Question),
 }
@@ -85,6 +88,7 @@ pub fn start() -> Session
     Session {
         records: 0,
         words: 0,
+        tables: 0,
         entries: 0,
         asked: false,
     }
@@ -98,12 +102,13 @@ pub fn number_of(session: Session) -> u32
     if n < 65535 { n + 1 } else { 65536 }
 }
 
-pub fn with_head(session: Session, w: u32) -> Session
-    ensures { λ r. ⌜ r ≡ nextOf session (Record.Head w) ⌝ }
+pub fn with_head(session: Session, w: u32, m: u32) -> Session
+    ensures { λ r. ⌜ r ≡ nextOf session (Record.Head w m) ⌝ }
 {
     Session {
         records: number_of(session),
         words: w,
+        tables: m,
         entries: session.entries,
         asked: session.asked,
     }
@@ -116,6 +121,7 @@ pub fn with_entry(session: Session, star: u32, code: Code) -> Session
     Session {
         records: number_of(session),
         words: session.words,
+        tables: session.tables,
         entries: session.entries + 1,
         asked: session.asked,
     }
@@ -127,6 +133,7 @@ pub fn with_question(session: Session, question: Question) -> Session
     Session {
         records: number_of(session),
         words: session.words,
+        tables: session.tables,
         entries: session.entries,
         asked: true,
     }
@@ -177,6 +184,12 @@ fn meaning(session: Session, kind: u32, b: &[u8]) -> Record
         }
         return Record::Bad;
     }
+    if kind == 7 {
+        if w == 0 {
+            return tables_head(b);
+        }
+        return Record::Bad;
+    }
     if w == 0 {
         return Record::Bad;
     }
@@ -214,11 +227,43 @@ fn head(b: &[u8]) -> Record
     if b[1] != 8 {
         return Record::Bad;
     }
-    match b[0] {
-        1 => Record::Head(1),
-        2 => Record::Head(2),
-        _ => Record::Bad,
+    let w = byte(b[0]);
+    head_of(w, 64 * w / 8)
+}
+
+fn tables_head(b: &[u8]) -> Record
+    ensures { λ r. ⌜ r ≡ tablesHeadIn (now (b .entry)) ⌝ }
+{
+    if b.len() != 2 {
+        return Record::Bad;
     }
+    head_of(byte(b[0]), byte(b[1]))
+}
+
+fn one_or_two(w: u32) -> bool
+    ensures { λ r. ⌜ r ≡ (eqb w 1 || eqb w 2) ⌝ }
+{
+    if w == 1 {
+        return true;
+    }
+    w == 2
+}
+
+// A head that names w words and m tables.
+fn head_of(w: u32, m: u32) -> Record
+    ensures { λ r. ⌜ r ≡ headOf w m ⌝ }
+{
+    if !one_or_two(w) {
+        return Record::Bad;
+    }
+    let q = 64 * w;
+    if m < q / 8 {
+        return Record::Bad;
+    }
+    if q / 4 < m {
+        return Record::Bad;
+    }
+    Record::Head(w, m)
 }
 
 fn entry(w: u32, b: &[u8]) -> Record
@@ -353,6 +398,12 @@ fn number_at(s: &[u8], at: usize, k: usize) -> u64
         v = v * 256 + wide(s[at + i]);
     }
     v
+}
+
+fn byte(x: u8) -> u32
+    ensures { λ r. ⌜ (r ≡ x) × (r < 256) ⌝ }
+{
+    x as u32
 }
 
 fn wide(x: u8) -> u64

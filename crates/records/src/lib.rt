@@ -29,7 +29,7 @@ pub fn turn(
     stars: &mut [u32; 512],
     codes: &mut [u64; 1024],
     starts: &mut [u32; 4112],
-    ids: &mut [u32; 8192],
+    ids: &mut [u32; 16384],
     marks: &mut [u64; 8],
     entries: &mut [u32; 512],
     distances: &mut [u32; 512],
@@ -46,7 +46,7 @@ pub fn turn(
             let written = lines::put_bad(out, 0, reading::number_of(session));
             ended(session, written)
         }
-        Record::Head(w) => going(reading::with_head(session, w), 0),
+        Record::Head(w, m) => going(reading::with_head(session, w, m), 0),
         Record::Entry(star, code) => {
             keep(session, star, code, stars, codes);
             going(reading::with_entry(session, star, code), 0)
@@ -139,7 +139,7 @@ fn answer(
     stars: &[u32; 512],
     codes: &[u64; 1024],
     starts: &mut [u32; 4112],
-    ids: &mut [u32; 8192],
+    ids: &mut [u32; 16384],
     marks: &mut [u64; 8],
     entries: &mut [u32; 512],
     distances: &mut [u32; 512],
@@ -218,7 +218,7 @@ fn ask_nearest(
     stars: &[u32; 512],
     codes: &[u64; 1024],
     starts: &[u32; 4112],
-    ids: &[u32; 8192],
+    ids: &[u32; 16384],
     marks: &mut [u64; 8],
     entries: &mut [u32; 512],
     distances: &mut [u32; 512],
@@ -261,7 +261,7 @@ fn ask_within(
     stars: &[u32; 512],
     codes: &[u64; 1024],
     starts: &[u32; 4112],
-    ids: &[u32; 8192],
+    ids: &[u32; 16384],
     marks: &mut [u64; 8],
     entries: &mut [u32; 512],
     distances: &mut [u32; 512],
@@ -305,7 +305,7 @@ fn ask_verdict(
     stars: &[u32; 512],
     codes: &[u64; 1024],
     starts: &[u32; 4112],
-    ids: &[u32; 8192],
+    ids: &[u32; 16384],
     marks: &mut [u64; 8],
     out: &mut [u8; 17408],
     at: usize,
@@ -350,11 +350,11 @@ fn ask_sky(
 // ---- the catalogue: the places that entries have filled, and its shape
 
 fn shape_of(session: Session) -> Shape
-    ensures { λ r. ⌜ r ≡ shapeOf (session .words) ⌝ }
+    ensures { λ r. ⌜ r ≡ shapeOf session ⌝ }
 {
     Shape {
         w: session.words,
-        s: 8,
+        m: session.tables,
     }
 }
 

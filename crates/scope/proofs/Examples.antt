@@ -9,7 +9,7 @@ use Rattle.theory.specs.Lists.{cat, sum, any, same, firstFrom, ranked}
 use Rattle.scope.specs.declared.Shape.{Shape}
 use Rattle.scope.specs.declared.Unit.the-variants.{Degrees, Radians}
 use Rattle.scope.specs.Codes.{bit, distance, substring, codeOf}
-use Rattle.scope.specs.Shape.{shape, q, listed, m, firstBit, len, size, startsBefore}
+use Rattle.scope.specs.Shape.{shape, q, listed, m, firstBit, len, startsBefore}
 use Rattle.scope.specs.Tables.{substringOf, builtStarts, builtIds, sound, start, idAt, bucket, badId, bad}
 use Rattle.scope.specs.Walk.{opens, opened, tested, near}
 use Rattle.scope.specs.Search.{nearestSteps, nearest, withinSteps, within}
@@ -18,20 +18,29 @@ use Rattle.scope.specs.Refusals.{unless, lent, ofSky}
 use Rattle.scope.specs.Calls.{report, nearestAnswer, nearestEnd, withinAnswer, withinEnd, searchEnd, skyAnswer}
 use Rattle.scope.proofs.CatalogueA.{a, spoiled, ask, asked, shown}
 
--- ---- shapes: q, m, the first bit of the last substring, the buckets of a table, and all starts
+-- ---- shapes: q; the first bits of the first, the second and the last substring and their lengths; and all starts
 
 abbrev values : Shape → List ℕ
-values sh = q sh ∷ m sh ∷ firstBit sh (m sh - 1) ∷ size sh 0 ∷ startsBefore sh (m sh) ∷ []
+values sh = q sh ∷ firstBit sh 0 ∷ firstBit sh 1 ∷ firstBit sh (m sh - 1) ∷ len sh 0 ∷ len sh 1 ∷ len sh (m sh - 1) ∷ startsBefore sh (m sh) ∷ []
 
 shapes :
-    map values (shape 1 4 ∷ shape 1 8 ∷ shape 1 16 ∷ shape 2 4 ∷ shape 2 8 ∷ shape 2 16 ∷ shape 4 4 ∷ shape 4 8 ∷ shape 4 16 ∷ [])
-    ≡ (64 ∷ 16 ∷ 60 ∷ 16 ∷ 272 ∷ []) ∷ (64 ∷ 8 ∷ 56 ∷ 256 ∷ 2056 ∷ []) ∷ (64 ∷ 4 ∷ 48 ∷ 65536 ∷ 262148 ∷ [])
-    ∷ (128 ∷ 32 ∷ 124 ∷ 16 ∷ 544 ∷ []) ∷ (128 ∷ 16 ∷ 120 ∷ 256 ∷ 4112 ∷ []) ∷ (128 ∷ 8 ∷ 112 ∷ 65536 ∷ 524296 ∷ [])
-    ∷ (256 ∷ 64 ∷ 252 ∷ 16 ∷ 1088 ∷ []) ∷ (256 ∷ 32 ∷ 248 ∷ 256 ∷ 8224 ∷ []) ∷ (256 ∷ 16 ∷ 240 ∷ 65536 ∷ 1048592 ∷ []) ∷ []
-unfolding m firstBit len startsBefore
+    map values (shape 1 16 ∷ shape 1 8 ∷ shape 1 4 ∷ shape 2 32 ∷ shape 2 16 ∷ shape 2 8 ∷ shape 4 64 ∷ shape 4 32 ∷ shape 4 16 ∷ [])
+    ≡ (64 ∷ 0 ∷ 4 ∷ 60 ∷ 4 ∷ 4 ∷ 4 ∷ 272 ∷ []) ∷ (64 ∷ 0 ∷ 8 ∷ 56 ∷ 8 ∷ 8 ∷ 8 ∷ 2056 ∷ []) ∷ (64 ∷ 0 ∷ 16 ∷ 48 ∷ 16 ∷ 16 ∷ 16 ∷ 262148 ∷ [])
+    ∷ (128 ∷ 0 ∷ 4 ∷ 124 ∷ 4 ∷ 4 ∷ 4 ∷ 544 ∷ []) ∷ (128 ∷ 0 ∷ 8 ∷ 120 ∷ 8 ∷ 8 ∷ 8 ∷ 4112 ∷ []) ∷ (128 ∷ 0 ∷ 16 ∷ 112 ∷ 16 ∷ 16 ∷ 16 ∷ 524296 ∷ [])
+    ∷ (256 ∷ 0 ∷ 4 ∷ 252 ∷ 4 ∷ 4 ∷ 4 ∷ 1088 ∷ []) ∷ (256 ∷ 0 ∷ 8 ∷ 248 ∷ 8 ∷ 8 ∷ 8 ∷ 8224 ∷ []) ∷ (256 ∷ 0 ∷ 16 ∷ 240 ∷ 16 ∷ 16 ∷ 16 ∷ 1048592 ∷ []) ∷ []
+unfolding firstBit len startsBefore sum
 shapes = refl
 
-listed-shapes : map listed (shape 1 4 ∷ shape 4 16 ∷ shape 3 8 ∷ shape 1 5 ∷ shape 0 8 ∷ shape 1 0 ∷ []) ≡ true ∷ true ∷ false ∷ false ∷ false ∷ false ∷ []
+-- 128 bits in 11 tables: seven of 12 bits and four of 11; 64 in 5: four of 13 and one of 12; 256 in 17: one of 16 and sixteen of 15
+unequal :
+    map values (shape 2 11 ∷ shape 1 5 ∷ shape 4 17 ∷ [])
+    ≡ (128 ∷ 0 ∷ 12 ∷ 117 ∷ 12 ∷ 12 ∷ 11 ∷ 36875 ∷ []) ∷ (64 ∷ 0 ∷ 13 ∷ 52 ∷ 13 ∷ 13 ∷ 12 ∷ 36869 ∷ []) ∷ (256 ∷ 0 ∷ 16 ∷ 241 ∷ 16 ∷ 15 ∷ 15 ∷ 589841 ∷ []) ∷ []
+unfolding firstBit len startsBefore sum
+unequal = refl
+
+listed-shapes :
+    map listed (shape 1 4 ∷ shape 1 5 ∷ shape 1 16 ∷ shape 2 11 ∷ shape 4 16 ∷ shape 4 64 ∷ shape 1 3 ∷ shape 1 17 ∷ shape 2 7 ∷ shape 3 16 ∷ shape 0 0 ∷ shape 1 0 ∷ [])
+    ≡ true ∷ true ∷ true ∷ true ∷ true ∷ true ∷ false ∷ false ∷ false ∷ false ∷ false ∷ false ∷ []
 unfolding listed
 listed-shapes = refl
 
@@ -44,24 +53,24 @@ crossing = refl
 
 -- A's tables are what the builder writes; a table whose bucket lists an entry twice is not
 tables : (sound a ≡ true) × (sound spoiled ≡ false)
-unfolding sound builtStarts builtIds same cat m firstBit len substringOf substring sum bit codeOf
+unfolding sound builtStarts builtIds same cat firstBit len substringOf substring sum bit codeOf
 tables = (refl, refl)
 
 buckets : bucket a 0 1 ∷ bucket a 0 2 ∷ bucket a 1 0 ∷ bucket a 7 255 ∷ [] ≡ (1 ∷ 4 ∷ []) ∷ [] ∷ (0 ∷ 1 ∷ 2 ∷ []) ∷ (3 ∷ []) ∷ []
-unfolding start idAt startsBefore cat
+unfolding start idAt startsBefore len sum cat
 buckets = refl
 
 -- ---- the walk: what a step opens
 
 masks : opens (ask a) 8 ≡ (0, 2) ∷ (0, 1) ∷ (0, 7) ∷ (0, 11) ∷ (0, 19) ∷ (0, 35) ∷ (0, 67) ∷ (0, 131) ∷ []
-unfolding opens cat m firstBit len substring sum bit ones
+unfolding opens cat firstBit len substring sum bit ones
 masks = refl
 
 -- ---- the searches: number and values, then the lists at the end
 
 -- 6 returns T and leaves the first P answers: within 2 with one place
 six : shown (withinEnd (asked a 1 2) 2) ≡ (6, 2 ∷ [], 0 ∷ 7 ∷ [], 1 ∷ [], 1 ∷ 9 ∷ [])
-unfolding withinEnd searchEnd lent withinAnswer report unless withinSteps within ranked tested opened opens bad badId start idAt substringOf listed startsBefore m firstBit len substring distance codeOf bit sum cat any ones
+unfolding withinEnd searchEnd lent withinAnswer report unless withinSteps within ranked tested opened opens bad badId start idAt substringOf listed startsBefore firstBit len substring distance codeOf bit sum cat any ones
 six = refl
 
 -- 7 names table 1, bucket 0, and leaves zeros; where the walk does not meet it, it does not matter; 5 comes before it
@@ -70,7 +79,7 @@ bads :
     ≡ (7, 1 ∷ 0 ∷ [], 0 ∷ 7 ∷ [], 0 ∷ 0 ∷ 9 ∷ [], 0 ∷ 0 ∷ 9 ∷ [])
     ∷ (0, 0 ∷ 1 ∷ 0 ∷ [], 0 ∷ 7 ∷ [], 0 ∷ 0 ∷ [], 0 ∷ 0 ∷ [])
     ∷ (5, [], 7 ∷ 7 ∷ [], 9 ∷ [], 9 ∷ 9 ∷ 9 ∷ []) ∷ []
-unfolding nearestEnd withinEnd searchEnd lent nearestAnswer withinAnswer report unless nearestSteps nearest withinSteps within ranked firstFrom near tested opened opens bad badId start idAt substringOf listed startsBefore m firstBit len substring distance codeOf bit sum cat any ones
+unfolding nearestEnd withinEnd searchEnd lent nearestAnswer withinAnswer report unless nearestSteps nearest withinSteps within ranked firstFrom near tested opened opens bad badId start idAt substringOf listed startsBefore firstBit len substring distance codeOf bit sum cat any ones
 bads = refl
 
 -- ---- the sky: 8; 9 with its place; across before up, so 10 before the 9 of up; 9 before 10 of one angle; an overflow is 10; cells; no stars

@@ -1,12 +1,12 @@
 -- 01, "The walk". Assumes nothing.
-use mathlib.Core.Bool.{Bool, _&&_}
+use mathlib.Core.Bool.{Bool, _&&_, cond}
 use mathlib.Core.List.{List, map}
-use Prim.Native.Nat.{ℕ, _+_, _-_, _*_, _/_, _%_}
+use Prim.Native.Nat.{ℕ, _+_, _/_, _%_}
 use lib.Dec.{eqb, leb}
 use lib.ListN.{length, getD}
 use lib.Bits.{bitXor}
 use lib.Count.{ones}
-use Rattle.theory.specs.Lists.{cat, upto, count, any, has}
+use Rattle.theory.specs.Lists.{sum, cat, upto, count, any, has}
 use Rattle.theory.specs.Binomials.{L}
 use Rattle.scope.specs.declared.Shape.{Shape}
 use Rattle.scope.specs.declared.Opened.{Opened}
@@ -15,12 +15,17 @@ use Rattle.scope.specs.Codes.{distance, substring, codeOf}
 use Rattle.scope.specs.Shape.{q, m, firstBit, len, size}
 use Rattle.scope.specs.Tables.{Index, n, bucket}
 
--- how many buckets are open after step R = m·r' + a: (a+1)·L(s, r') + (m−a−1)·L(s, r'−1); `L s (r + 1)` is L(s, r'), `L s r` is L(s, r'−1)
-unfoldable pub openAfter : Shape → ℕ → ℕ
-openAfter sh R =
+-- how many buckets of table z are open after step R = m·r' + a: L(len z, r') for z up to a, L(len z, r'−1) for the rest;
+-- `L s (r + 1)` is L(s, r'), `L s r` is L(s, r'−1)
+abbrev pub openIn : Shape → ℕ → ℕ → ℕ
+openIn sh R z =
     let r = R / m sh in
     let a = R % m sh in
-    (a + 1) * L (sh .s) (r + 1) + (m sh - a - 1) * L (sh .s) r
+    L (len sh z) (cond (leb z a) (r + 1) r)
+
+-- and of all tables
+unfoldable pub openAfter : Shape → ℕ → ℕ
+openAfter sh R = sum (openIn sh R) (m sh)
 
 -- what is asked: an index and a query
 pub record Question : Type 0 where

@@ -31,7 +31,7 @@ fn main() {
 
 // ---- catalogue A, and its tables with a place behind each list
 
-const A: Shape = Shape { w: 1, s: 8 };
+const A: Shape = Shape { w: 1, m: 8 };
 
 fn stars() -> [u32; 5] {
     [10, 10, 20, 30, 40]
@@ -290,20 +290,20 @@ fn ask(question: Question) {
 // Refusal 1.
 fn unlisted_shapes() {
     with_shape(b"w 0", 0, 8);
-    with_shape(b"w 3", 3, 8);
-    with_shape(b"w 5", 5, 8);
-    with_shape(b"s 0", 1, 0);
-    with_shape(b"s 3", 1, 3);
-    with_shape(b"s 5", 1, 5);
-    with_shape(b"s 32", 1, 32);
-    with_shape(b"w 1 s 8", 1, 8);
+    with_shape(b"w 3", 3, 24);
+    with_shape(b"w 5", 5, 40);
+    with_shape(b"m 0", 1, 0);
+    with_shape(b"m 3", 1, 3);
+    with_shape(b"m 17", 1, 17);
+    with_shape(b"m 4294967295", 1, 4294967295);
+    with_shape(b"w 1 m 8", 1, 8);
 }
 
-fn with_shape(name: &[u8], w: u32, s: u32) {
+fn with_shape(name: &[u8], w: u32, m: u32) {
     let built = built();
     let starts = built.starts;
     let ids = built.ids;
-    let shape = Shape { w: w, s: s };
+    let shape = Shape { w: w, m: m };
     run_each(name, shape, &stars(), &codes(), &starts, &ids, &[3]);
 }
 
@@ -394,7 +394,7 @@ fn first_that_fits() {
 }
 
 fn mended(name: &[u8], w: u32, codes: &[u64], starts: &[u32], query: &[u64], room: Room) {
-    let shape = Shape { w: w, s: 8 };
+    let shape = Shape { w: w, m: 8 };
     let question = Question::Within(1);
     run(
         name,
@@ -588,25 +588,28 @@ fn two_words() {
     ];
     let mut starts = [77; 544];
     let mut ids = [77; 160];
-    two_words_over(&codes, &mut starts, &mut ids);
+    two_words_over(b"w 2 m 32", 32, &codes, &mut starts, &mut ids);
+    let mut more_starts = [77; 36875];
+    let mut fewer_ids = [77; 55];
+    two_words_over(b"w 2 m 11", 11, &codes, &mut more_starts, &mut fewer_ids);
 }
 
-fn two_words_over(codes: &[u64], starts: &mut [u32], ids: &mut [u32]) {
-    tables::build(Shape { w: 2, s: 4 }, &stars(), codes, starts, ids);
-    ask_twos(codes, starts, ids);
+fn two_words_over(name: &[u8], m: u32, codes: &[u64], starts: &mut [u32], ids: &mut [u32]) {
+    tables::build(Shape { w: 2, m: m }, &stars(), codes, starts, ids);
+    ask_twos(name, m, codes, starts, ids);
 }
 
-fn ask_twos(codes: &[u64], starts: &[u32], ids: &[u32]) {
-    ask_two(Question::Nearest(1), codes, starts, ids);
-    ask_two(Question::Nearest(2), codes, starts, ids);
-    ask_two(Question::Nearest(3), codes, starts, ids);
-    ask_two(Question::Nearest(4), codes, starts, ids);
-    ask_two(Question::Nearest(5), codes, starts, ids);
-    ask_two(Question::Within(2), codes, starts, ids);
-    ask_two(Question::Within(127), codes, starts, ids);
-    ask_two(Question::Within(128), codes, starts, ids);
-    ask_two(Question::Within(129), codes, starts, ids);
-    let shape = Shape { w: 2, s: 4 };
+fn ask_twos(name: &[u8], m: u32, codes: &[u64], starts: &[u32], ids: &[u32]) {
+    ask_two(name, m, Question::Nearest(1), codes, starts, ids);
+    ask_two(name, m, Question::Nearest(2), codes, starts, ids);
+    ask_two(name, m, Question::Nearest(3), codes, starts, ids);
+    ask_two(name, m, Question::Nearest(4), codes, starts, ids);
+    ask_two(name, m, Question::Nearest(5), codes, starts, ids);
+    ask_two(name, m, Question::Within(2), codes, starts, ids);
+    ask_two(name, m, Question::Within(127), codes, starts, ids);
+    ask_two(name, m, Question::Within(128), codes, starts, ids);
+    ask_two(name, m, Question::Within(129), codes, starts, ids);
+    let shape = Shape { w: 2, m: m };
     run_each(
         b"w 2, query of 1 word",
         shape,
@@ -618,11 +621,11 @@ fn ask_twos(codes: &[u64], starts: &[u32], ids: &[u32]) {
     );
 }
 
-fn ask_two(question: Question, codes: &[u64], starts: &[u32], ids: &[u32]) {
-    let shape = Shape { w: 2, s: 4 };
+fn ask_two(name: &[u8], m: u32, question: Question, codes: &[u64], starts: &[u32], ids: &[u32]) {
+    let shape = Shape { w: 2, m: m };
     let query = [0x0123_4567_89ab_cdef, 0x1111_2222_3333_4444];
     run(
-        b"w 2 s 4",
+        name,
         question,
         shape,
         &stars(),
@@ -653,7 +656,7 @@ fn four_words_over(starts: &mut [u32; 1048592], ids: &mut [u32; 32]) {
         0x8000_0000_0000_0009,
     ];
     ask_four(Question::Nearest(1), &codes, starts, ids);
-    tables::build(Shape { w: 4, s: 16 }, &[7, 8], &codes, starts, ids);
+    tables::build(Shape { w: 4, m: 16 }, &[7, 8], &codes, starts, ids);
     ask_fours(&codes, starts, ids);
 }
 
@@ -668,10 +671,10 @@ fn ask_fours(codes: &[u64], starts: &[u32], ids: &[u32]) {
 }
 
 fn ask_four(question: Question, codes: &[u64], starts: &[u32], ids: &[u32]) {
-    let shape = Shape { w: 4, s: 16 };
+    let shape = Shape { w: 4, m: 16 };
     let query = [0x0123_4567_89ab_cdef, 0x1111_2222_3333_4444, 0, 9];
     run(
-        b"w 4 s 16",
+        b"w 4 m 16",
         question,
         shape,
         &[7, 8],
@@ -696,7 +699,7 @@ fn largest_over(
     starts: &mut [u32; 262148],
     ids: &mut [u32; 262144],
 ) {
-    tables::build(Shape { w: 1, s: 16 }, stars, codes, starts, ids);
+    tables::build(Shape { w: 1, m: 4 }, stars, codes, starts, ids);
     ask_largest(Question::Nearest(3), 1023, stars, codes, starts, ids);
     ask_largest(Question::Nearest(3), 1024, stars, codes, starts, ids);
     ask_largest(Question::Within(0), 1024, stars, codes, starts, ids);
@@ -711,7 +714,7 @@ fn ask_largest(
     starts: &[u32],
     ids: &[u32],
 ) {
-    let shape = Shape { w: 1, s: 16 };
+    let shape = Shape { w: 1, m: 4 };
     let mut marks = [0xff; 1025];
     let mut entries = [99; 7];
     let mut distances = [99; 7];

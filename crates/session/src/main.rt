@@ -9,7 +9,7 @@ fn main() {
     let mut stars = [0u32; 512];
     let mut codes = [0u64; 1024];
     let mut starts = [0u32; 4112];
-    let mut ids = [0u32; 8192];
+    let mut ids = [0u32; 16384];
     let mut marks = [0u64; 8];
     let mut entries = [0u32; 512];
     let mut distances = [0u32; 512];
@@ -33,7 +33,7 @@ fn run(
     stars: &mut [u32; 512],
     codes: &mut [u64; 1024],
     starts: &mut [u32; 4112],
-    ids: &mut [u32; 8192],
+    ids: &mut [u32; 16384],
     marks: &mut [u64; 8],
     entries: &mut [u32; 512],
     distances: &mut [u32; 512],

@@ -1,7 +1,7 @@
-// What w and s make of a catalogue, as numbers; and refusals 1 to 3, with which every entry point begins.
+// What w and m make of a catalogue, as numbers; and refusals 1 to 3, with which every entry point begins.
 ghost use mathlib.Core.Path.{_≡_};
 ghost use mathlib.Core.Bool.{true, not, _||_};
-ghost use Prim.Native.Nat.{_*_, _≤_, _<_};
+ghost use Prim.Native.Nat.{_*_, _/_, _%_, _≤_, _<_, min};
 ghost use lib.Dec.{eqb, ltb};
 ghost use Rattle.scope.specs.Refusals.{oneToThree, unless};
 ghost use Rattle.scope.specs.Shape as spec;
@@ -31,21 +31,46 @@ pub fn listed(shape: Shape) -> bool
     ensures { λ r. ⌜ r ≡ spec.listed shape ⌝ }
 {
     let w = shape.w;
-    let s = shape.s;
+    let m = shape.m;
     if !one_of(w, 1, 2, 4) {
         return false;
     }
-    one_of(s, 4, 8, 16)
+    let q = 64 * w;
+    if m < q / 16 {
+        return false;
+    }
+    m <= q / 4
 }
 
 // How many tables there are.
 pub fn tables(shape: Shape) -> usize
-    requires { ⌜ spec.listed shape ≡ true ⌝ }
     ensures { λ r. ⌜ r ≡ spec.m shape ⌝ }
 {
-    let w = shape.w;
-    let s = shape.s;
-    (64 * w / s) as usize
+    shape.m as usize
+}
+
+// How a code is cut: every substring has `least` bits, and the first `longer` of them one more.
+struct Cut {
+    least: usize,
+    longer: usize,
+}
+
+fn cut_of(shape: Shape) -> Cut
+    requires { ⌜ spec.listed shape ≡ true ⌝ }
+    ensures { λ r. ⌜ (r .least ≡ spec.q shape / spec.m shape) × (r .longer ≡ spec.q shape % spec.m shape) ⌝ }
+{
+    let q = 64 * shape.w;
+    let m = shape.m;
+    let least = (q / m) as usize;
+    let longer = (q % m) as usize;
+    Cut { least, longer }
+}
+
+// How many of the substrings before z are longer.
+fn longer_before(cut: Cut, z: usize) -> usize
+    ensures { λ r. ⌜ r ≡ min z (cut .longer) ⌝ }
+{
+    if z <= cut.longer { z } else { cut.longer }
 }
 
 // The first bit of substring z.
@@ -53,7 +78,8 @@ pub fn first_bit(shape: Shape, z: usize) -> usize
     requires { ⌜ (spec.listed shape ≡ true) × (z < spec.m shape) ⌝ }
     ensures { λ r. ⌜ r ≡ spec.firstBit shape z ⌝ }
 {
-    z * (shape.s as usize)
+    let cut = cut_of(shape);
+    z * cut.least + longer_before(cut, z)
 }
 
 // How many bits it has.
@@ -61,7 +87,12 @@ pub fn bits(shape: Shape, z: usize) -> usize
     requires { ⌜ (spec.listed shape ≡ true) × (z < spec.m shape) ⌝ }
     ensures { λ r. ⌜ r ≡ spec.len shape z ⌝ }
 {
-    shape.s as usize
+    let cut = cut_of(shape);
+    if z < cut.longer {
+        cut.least + 1
+    } else {
+        cut.least
+    }
 }
 
 // How many buckets table z has.
@@ -72,12 +103,14 @@ pub fn buckets(shape: Shape, z: usize) -> usize
     1 << bits(shape, z)
 }
 
-// How many starts the tables before z have. All tables have as many buckets as table 0.
+// How many starts the tables before z have: each has one more than it has buckets, and one bit more is twice as many buckets.
 pub fn starts_before(shape: Shape, z: usize) -> usize
     requires { ⌜ (spec.listed shape ≡ true) × (z ≤ spec.m shape) ⌝ }
     ensures { λ r. ⌜ r ≡ spec.startsBefore shape z ⌝ }
 {
-    z * (buckets(shape, 0) + 1)
+    let cut = cut_of(shape);
+    let least = 1 << cut.least;
+    z * (least + 1) + longer_before(cut, z) * least
 }
 
 // Refusal 2: whether n is too large, or the code list is not n * w words long.

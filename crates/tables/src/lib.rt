@@ -10,6 +10,7 @@ use scope::Built;
 use scope::Checked;
 use scope::Shape;
 use shapes::Early;
+use shapes::bits;
 use shapes::refused_early;
 use shapes::starts_before;
 use shapes::tables;
@@ -23,17 +24,22 @@ fn fill(shape: Shape, stars: &[u32], codes: &[u64], starts: &mut [u32], ids: &mu
     let n = stars.len();
     let m = tables(shape);
     let mut z = 0;
+    // substring z's first bit
+    let mut bit = 0;
     while z < m {
         let from = starts_before(shape, z);
         let end = starts_before(shape, z + 1);
         let at = z * n;
         let to = at + n;
+        let len = bits(shape, z);
         let t = Table {
-            shape: shape,
-            z: z,
+            w: shape.w as usize,
+            from: bit,
+            bits: len,
             n: n,
         };
         build_table(t, codes, &mut starts[from..end], &mut ids[at..to]);
+        bit += len;
         z += 1;
     }
 }
@@ -64,19 +70,24 @@ fn all_right(shape: Shape, stars: &[u32], codes: &[u64], starts: &[u32], ids: &[
     let n = stars.len();
     let m = tables(shape);
     let mut z = 0;
+    // substring z's first bit
+    let mut bit = 0;
     while z < m {
         let from = starts_before(shape, z);
         let end = starts_before(shape, z + 1);
         let at = z * n;
         let to = at + n;
+        let len = bits(shape, z);
         let t = Table {
-            shape: shape,
-            z: z,
+            w: shape.w as usize,
+            from: bit,
+            bits: len,
             n: n,
         };
         if !check_table(t, codes, &starts[from..end], &ids[at..to]) {
             return false;
         }
+        bit += len;
         z += 1;
     }
     true

@@ -17,7 +17,7 @@ fn catalogue_a() {
     let codes = [0, 1, 0xff, 0xffff_ffff_ffff_ffff, 0x0101_0101_0101_0101];
     let mut starts = [77; 2057];
     let mut ids = [77; 41];
-    tables_of_a(Shape { w: 1, s: 8 }, &stars, &codes, &mut starts, &mut ids);
+    tables_of_a(Shape { w: 1, m: 8 }, &stars, &codes, &mut starts, &mut ids);
 }
 
 fn tables_of_a(a: Shape, stars: &[u32], codes: &[u64], starts: &mut [u32], ids: &mut [u32]) {
@@ -125,26 +125,29 @@ fn other_shapes() {
         0x8000_0000_0000_0001,
         5,
     ];
-    in_room(b"no entry", Shape { w: 4, s: 8 }, &stars[..0], &codes[..0]);
+    in_room(b"no entry", Shape { w: 4, m: 32 }, &stars[..0], &codes[..0]);
     in_room(
         b"equal codes",
-        Shape { w: 1, s: 4 },
+        Shape { w: 1, m: 16 },
         &stars[..3],
         &codes[..3],
     );
-    in_room(b"w 2 s 4", Shape { w: 2, s: 4 }, &stars, &codes);
-    in_room(b"w 2 s 8", Shape { w: 2, s: 8 }, &stars, &codes);
-    in_room(b"w 4 s 4", Shape { w: 4, s: 4 }, &stars[..2], &codes);
-    in_room(b"w 4 s 8", Shape { w: 4, s: 8 }, &stars[..2], &codes);
+    in_room(b"w 2 m 32", Shape { w: 2, m: 32 }, &stars, &codes);
+    in_room(b"w 2 m 16", Shape { w: 2, m: 16 }, &stars, &codes);
+    in_room(b"w 2 m 17", Shape { w: 2, m: 17 }, &stars, &codes);
+    in_room(b"w 1 m 11", Shape { w: 1, m: 11 }, &stars, &codes[..4]);
+    in_room(b"w 4 m 64", Shape { w: 4, m: 64 }, &stars[..2], &codes);
+    in_room(b"w 4 m 32", Shape { w: 4, m: 32 }, &stars[..2], &codes);
 }
 
 // Two entries, with something missing or too much.
 fn refused() {
-    let shape = Shape { w: 1, s: 8 };
+    let shape = Shape { w: 1, m: 8 };
     let stars = [7; 2];
     let codes = [1; 3];
-    in_room(b"w 3", Shape { w: 3, s: 8 }, &stars, &codes[..2]);
-    in_room(b"s 5", Shape { w: 1, s: 5 }, &stars, &codes[..2]);
+    in_room(b"w 3", Shape { w: 3, m: 24 }, &stars, &codes[..2]);
+    in_room(b"m 3", Shape { w: 1, m: 3 }, &stars, &codes[..2]);
+    in_room(b"m 17", Shape { w: 1, m: 17 }, &stars, &codes[..2]);
     in_room(b"one code few", shape, &stars, &codes[..1]);
     in_room(b"one code more", shape, &stars, &codes);
     let mut starts = [77; 2056];
@@ -188,7 +191,7 @@ fn full_catalogue() {
     let mut ids = [0; 262144];
     let mut none = [0; 1];
     let mut nothing = [0; 1];
-    let shape = Shape { w: 1, s: 16 };
+    let shape = Shape { w: 1, m: 4 };
     build(
         b"65537 entries",
         shape,

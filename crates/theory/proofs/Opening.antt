@@ -1,21 +1,22 @@
 -- What the steps open, over m tables: how many buckets, which, and each once. Assumes nothing.
 use mathlib.Core.Path.{_≡_, refl, sym, ap, ap₂, _∙_}
 use mathlib.Core.Logic.{_⊎_, ⊎-elim}
-use mathlib.Core.Bool.{Bool, true, false, _&&_, and-false}
+use mathlib.Core.Bool.{Bool, true, false, _&&_, and-false, cond}
 use mathlib.Core.List.{List, [], _∷_, map}
-use Prim.Native.Nat.{ℕ, zero, suc, _+_, _-_, _*_, _/_, _%_, _^_, _≤_, _<_}
+use Prim.Native.Nat.{ℕ, zero, suc, _+_, _-_, _*_, _/_, _%_, _^_, _≤_, _<_, min}
 use native.Mathlib.Nat.{mod-lt, div-add-mod', suc-mul, add-suc, zero-mul, le-refl}
+use native.Mathlib.Numerals.{add-one}
 use native.Mathlib.Omega.{arith}
 use lib.Arith.{digits-div, digits-mod}
 use lib.Bits.{bitXor, xor-lt}
 use lib.Count.{ones}
-use lib.Dec.{eqb, ltb}
+use lib.Dec.{eqb, ltb, leb}
 use lib.ListN.{length, length-map}
 use borrow.Author.Tests.{eq-eqb, ne-eqb, lt-ltb, le-ltb, eqb-true}
 use Rattle.theory.specs.Lists.{sum, cat, upto, count, any, is}
 use Rattle.theory.specs.Binomials.{L}
-use Rattle.theory.proofs.Tests.{either, lt-or-le, both-ways, or-right, and-left, and-right, oneIf}
-use Rattle.theory.proofs.Sums.{sum-cong, sum-split, sum-zero, sum-at, sum-plus, sum-const}
+use Rattle.theory.proofs.Tests.{either, lt-or-le, both-ways, or-right, and-left, and-right, oneIf, cond-of, leb-is-ltb}
+use Rattle.theory.proofs.Sums.{sum-cong, sum-split, sum-zero, sum-at, sum-plus, sum-const, sum-cut}
 use Rattle.theory.proofs.Lists.{length-cat}
 use Rattle.theory.proofs.Times.{times, times-cat, times-map, times-cong, times-never, once}
 use Rattle.theory.proofs.Xor.{xor-undo, eqb-xor}
@@ -62,47 +63,45 @@ module _ (f : ℕ → ℕ → ℕ) (m : ℕ) where
       rw suc-mul (blocks-part r m (le-refl m) ∙ ap (λ (n : ℕ). n + sum (λ z. f z r) m) (blocks r) ∙ sym (sum-plus (λ z. sum (f z) r) (λ z. f z r) m))
 
   -- up to and with place r * m + a: suc r of each of the first suc a, and r of each of the rest
-  pub sum-places : (r a : ℕ) → a < m
-      → sum (λ R. f (R % m) (R / m)) (suc (r * m + a)) ≡ sum (λ z. sum (f z) (suc r)) (suc a) + sum (λ i. sum (f (suc a + i)) r) (m - suc a)
+  pub sum-places : (r a : ℕ) → a < m → sum (λ R. f (R % m) (R / m)) (suc (r * m + a)) ≡ sum (λ z. sum (f z) (cond (leb z a) (suc r) r)) m
   unfolding sum
   sum-places r a h =
-      let part : sum (λ R. f (R % m) (R / m)) (suc (r * m + a)) ≡ sum (λ R. f (R % m) (R / m)) (r * m) + sum (λ z. f z r) (suc a)
-      = ap (sum (λ R. f (R % m) (R / m))) (sym (add-suc (r * m) a)) ∙ blocks-part r (suc a) h in
-      let whole = blocks r in
+      let all : ℕ → ℕ = λ z. sum (f z) r in
+      let first : min m (suc a) ≡ suc a = omega arith in
       let rest : m ≡ suc a + (m - suc a) = omega arith in
-      let cut : sum (λ z. sum (f z) r) m ≡ sum (λ z. sum (f z) r) (suc a) + sum (λ i. sum (f (suc a + i)) r) (m - suc a)
-      = ap (sum (λ z. sum (f z) r)) rest ∙ sum-split (λ z. sum (f z) r) (suc a) (m - suc a) in
-      part ∙ omega (arith, whole, cut, sum-plus (λ z. sum (f z) r) (λ z. f z r) (suc a))
+      let cut : sum all m ≡ sum all (suc a) + sum (λ i. all (suc a + i)) (m - suc a) = ap (sum all) rest ∙ sum-split all (suc a) (m - suc a) in
+      ap (sum (λ R. f (R % m) (R / m))) (sym (add-suc (r * m) a)) ∙ blocks-part r (suc a) h
+      ∙ omega (arith, blocks r, cut, sum-plus all (λ z. f z r) (suc a))
+      ∙ sym (rw first at (sum-cut (λ z. sum (f z) (suc r)) all (suc a) m))
+      ∙ sum-cong _ _ m (λ z _. rw (leb-is-ltb z a) (sym (cond-of (sum (f z)) (ltb z (suc a)) (suc r) r)))
 
 -- ---- how many
 
 -- after step R = r * m + a: the tables 0 to a are open to weight r and the rest to r - 1
 pub length-opened : (m : ℕ) (len : ℕ → ℕ) (wt : ℕ → ℕ → ℕ) (q : ℕ → ℕ) (r a : ℕ) → a < m
-    → length (openedBy m len wt q (suc (r * m + a)))
-    ≡ sum (λ z. sum (λ d. count (λ e. eqb (wt z e) d) (2 ^ len z)) (suc r)) (suc a)
-    + sum (λ i. sum (λ d. count (λ e. eqb (wt (suc a + i) e) d) (2 ^ len (suc a + i))) r) (m - suc a)
+    → length (openedBy m len wt q (suc (r * m + a))) ≡ sum (λ z. sum (λ d. count (λ e. eqb (wt z e) d) (2 ^ len z)) (cond (leb z a) (suc r) r)) m
 length-opened m len wt q r a h =
     length-cat (stepBy m len wt q) (suc (r * m + a))
     ∙ sum-cong _ _ (suc (r * m + a)) (λ R _. length-map (upto (λ e. eqb (wt (R % m) e) (R / m)) (2 ^ len (R % m))) _)
     ∙ sum-places (λ z d. count (λ e. eqb (wt z e) d) (2 ^ len z)) m r a h
 
--- where every bit counts
-pub opened-lengths : (m : ℕ) (len q : ℕ → ℕ) (r a : ℕ) → a < m
-    → length (openedBy m len (λ _. ones) q (suc (r * m + a))) ≡ sum (λ z. L (len z) (suc r)) (suc a) + sum (λ i. L (len (suc a + i)) r) (m - suc a)
-opened-lengths m len q r a h =
-    let each : (s k : ℕ) → sum (λ d. count (λ e. eqb (ones e) d) (2 ^ s)) k ≡ L s k = λ s k. sum-cong _ _ k (λ d _. count-masks s d) in
-    length-opened m len (λ _. ones) q r a h
-    ∙ ap₂ (λ (x y : ℕ). x + y) (sum-cong _ _ (suc a) (λ z _. each (len z) (suc r))) (sum-cong _ _ (m - suc a) (λ i _. each (len (suc a + i)) r))
+-- where every bit counts; by the step's number
+pub opened-lengths : (m : ℕ) (len q : ℕ → ℕ) (R : ℕ) → 0 < m
+    → length (openedBy m len (λ _. ones) q (suc R)) ≡ sum (λ z. L (len z) (cond (leb z (R % m)) (R / m + 1) (R / m))) m
+opened-lengths m len q R h =
+    ap (λ (n : ℕ). length (openedBy m len (λ _. ones) q (suc n))) (sym (div-add-mod' R m))
+    ∙ length-opened m len (λ _. ones) q (R / m) (R % m) (mod-lt R h)
+    ∙ sum-cong _ _ m (λ z _. rw add-one (sum-cong _ _ (cond (leb z (R % m)) (suc (R / m)) (R / m)) (λ d _. count-masks (len z) d)))
 
--- and each substring has s bits; by the step's number
-pub opened-length : (m s : ℕ) (q : ℕ → ℕ) (R : ℕ) → 0 < m
-    → length (openedBy m (λ _. s) (λ _. ones) q (suc R)) ≡ suc (R % m) * L s (suc (R / m)) + (m - suc (R % m)) * L s (R / m)
-opened-length m s q R h =
-    let r = R / m in
-    let a = R % m in
-    ap (λ (n : ℕ). length (openedBy m (λ _. s) (λ _. ones) q (suc n))) (sym (div-add-mod' R m))
-    ∙ opened-lengths m (λ _. s) q r a (mod-lt R h)
-    ∙ ap₂ (λ (x y : ℕ). x + y) (sum-const (L s (suc r)) (suc a)) (sum-const (L s r) (m - suc a))
+-- and where each substring has s bits
+pub equal-lengths : (m s r a : ℕ) → a < m → sum (λ z. L s (cond (leb z a) (r + 1) r)) m ≡ (a + 1) * L s (r + 1) + (m - a - 1) * L s r
+equal-lengths m s r a h =
+    let first : min m (suc a) ≡ suc a = omega arith in
+    let others : m - a - 1 ≡ m - suc a = omega arith in
+    sum-cong _ _ m (λ z _. rw (leb-is-ltb z a) (cond-of (L s) (ltb z (suc a)) (r + 1) r))
+    ∙ rw first at (sum-cut (λ _. L s (r + 1)) (λ _. L s r) (suc a) m)
+    ∙ ap₂ (λ (x y : ℕ). x + y) (sum-const (L s (r + 1)) (suc a)) (sum-const (L s r) (m - suc a))
+    ∙ rw (others, add-one a)
 
 -- ---- which, and each once
 

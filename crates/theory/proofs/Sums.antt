@@ -1,11 +1,15 @@
 -- Laws of `sum`. Assumes nothing.
 use mathlib.Core.Path.{_≡_, refl, ap, ap₂, _∙_}
 use mathlib.Core.Logic.{⊎-elim}
-use Prim.Native.Nat.{ℕ, zero, suc, _+_, _*_, _≤_, _<_}
+use mathlib.Core.Bool.{cond}
+use Prim.Native.Nat.{ℕ, zero, suc, _+_, _-_, _*_, _≤_, _<_, min}
 use native.Mathlib.Nat.{add-zero, add-suc, le-refl, eq-or-lt-of-le, le-of-suc-le-suc}
 use native.Mathlib.Decide.{le-ind}
 use native.Mathlib.Omega.{arith}
+use lib.Dec.{ltb}
+use borrow.Author.Tests.{lt-ltb, le-ltb}
 use Rattle.theory.specs.Lists.{sum}
+use Rattle.theory.proofs.Tests.{cond-of}
 
 pub sum-suc : (f : ℕ → ℕ) (n : ℕ) → sum f (suc n) ≡ sum f n + f n
 unfolding sum
@@ -43,6 +47,11 @@ unfolding sum
 sum-const c zero = omega arith
 sum-const c (suc n) = omega (arith, sum-const c n)
 
+pub sum-times : (f : ℕ → ℕ) (c n : ℕ) → sum (λ i. f i * c) n ≡ sum f n * c
+unfolding sum
+sum-times f c zero = omega arith
+sum-times f c (suc n) = omega (arith, sum-times f c n)
+
 -- all but place k are 0
 pub sum-at : (f : ℕ → ℕ) (k n : ℕ) → ((i : ℕ) → i < n → (i ≡ k → ⊥) → f i ≡ 0) → k < n → sum f n ≡ f k
 unfolding sum
@@ -63,3 +72,23 @@ sum-grows f m n h = le-ind (λ (k : ℕ). sum f m ≤ sum f k) (le-refl (sum f m
 
 pub sum-le : (f : ℕ → ℕ) (b n : ℕ) → ((i : ℕ) → i < n → f i ≤ b) → sum f n ≤ n * b
 sum-le f b n h = omega (arith, sum-mono f (λ _. b) n h, sum-const b n)
+
+-- one function at the first k places, and another at the rest
+pub sum-cut : (f g : ℕ → ℕ) (k n : ℕ) → sum (λ i. cond (ltb i k) (f i) (g i)) n ≡ sum f (min n k) + sum (λ i. g (min n k + i)) (n - min n k)
+sum-cut f g k n =
+    let first = min n k in
+    let rest : n ≡ first + (n - first) = omega arith in
+    let t : ℕ → ℕ = λ i. cond (ltb i k) (f i) (g i) in
+    ap (sum t) rest ∙ sum-split t first (n - first)
+    ∙ ap₂ (λ (x y : ℕ). x + y)
+    (sum-cong t f first (λ i l. rw (lt-ltb i k (omega arith))))
+    (sum-cong (λ i. t (first + i)) (λ i. g (first + i)) (n - first) (λ i l. rw (le-ltb (first + i) k (omega arith))))
+
+-- one number there, and another at the rest
+pub sum-two : (f : ℕ → ℕ) (x y k n : ℕ) → sum (λ i. f (cond (ltb i k) x y)) n + min n k * f y ≡ n * f y + min n k * f x
+sum-two f x y k n =
+    let first = min n k in
+    let rest : n ≡ first + (n - first) = omega arith in
+    let both : sum (λ i. f (cond (ltb i k) x y)) n ≡ first * f x + (n - first) * f y =
+    sum-cong _ _ n (λ i _. cond-of f (ltb i k) x y) ∙ sum-cut (λ _. f x) (λ _. f y) k n ∙ ap₂ (λ (a b : ℕ). a + b) (sum-const (f x) first) (sum-const (f y) (n - first)) in
+    omega (arith, both, ap (λ (j : ℕ). j * f y) rest)

@@ -26,6 +26,16 @@ pub split : {A P : Type 0} (t : Bool) (x y z : A) → cond t x y ≡ z → (t �
 split true x y z h f g = f refl h
 split false x y z h f g = g refl h
 
+-- what holds of each of two, where it is chosen, holds of the choice
+pub chosen : {A : Type 0} (P : A → Type 0) (t : Bool) (x y : A) → (t ≡ true → P x) → (t ≡ false → P y) → P (cond t x y)
+chosen P true x y f g = f refl
+chosen P false x y f g = g refl
+
+-- a function of a choice
+pub cond-of : {A B : Type 0} (f : A → B) (t : Bool) (x y : A) → f (cond t x y) ≡ cond t (f x) (f y)
+cond-of f true x y = refl
+cond-of f false x y = refl
+
 -- a test does not both pass and fail
 pub both-ways : {A : Type 0} → true ≡ false → A
 both-ways h = elim (subst T h tt) [ ]

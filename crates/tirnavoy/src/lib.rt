@@ -25,15 +25,15 @@ use scope::Verdict;
 #[no_mangle]
 pub extern "C" fn tirnavoy_build(
     w: u32,
-    s: u32,
+    m: u32,
     stars: &[u32],
     codes: &[u64],
     starts: &mut [u32],
     ids: &mut [u32],
 ) -> u32
-    ensures { λ r. ⌜ (r, now (starts .exit), now (ids .exit)) ≡ built (buildEnd (index (shape w s) (now (stars .entry)) (now (codes .entry)) (now (starts .entry)) (now (ids .entry)))) ⌝ }
+    ensures { λ r. ⌜ (r, now (starts .exit), now (ids .exit)) ≡ built (buildEnd (index (shape w m) (now (stars .entry)) (now (codes .entry)) (now (starts .entry)) (now (ids .entry)))) ⌝ }
 {
-    let shape = Shape { w: w, s: s };
+    let shape = Shape { w: w, m: m };
     match tables::build(shape, stars, codes, starts, ids) {
         Built::Done => 0,
         Built::Refused(refusal) => refusal.number(),
@@ -44,16 +44,16 @@ pub extern "C" fn tirnavoy_build(
 #[no_mangle]
 pub extern "C" fn tirnavoy_check(
     w: u32,
-    s: u32,
+    m: u32,
     stars: &[u32],
     codes: &[u64],
     starts: &[u32],
     ids: &[u32],
     sound: &mut u32,
 ) -> u32
-    ensures { λ r. ⌜ r ∷ now (sound .exit) ∷ [] ≡ oneOut (ofChecked (checkAnswer (index (shape w s) (now (stars .entry)) (now (codes .entry)) (now (starts .entry)) (now (ids .entry))))) ⌝ }
+    ensures { λ r. ⌜ r ∷ now (sound .exit) ∷ [] ≡ oneOut (ofChecked (checkAnswer (index (shape w m) (now (stars .entry)) (now (codes .entry)) (now (starts .entry)) (now (ids .entry))))) ⌝ }
 {
-    let shape = Shape { w: w, s: s };
+    let shape = Shape { w: w, m: m };
     *sound = 0;
     match tables::check(shape, stars, codes, starts, ids) {
         Checked::Yes => {
@@ -121,7 +121,7 @@ fn report(
 #[no_mangle]
 pub extern "C" fn tirnavoy_nearest(
     w: u32,
-    s: u32,
+    m: u32,
     stars: &[u32],
     codes: &[u64],
     starts: &[u32],
@@ -137,9 +137,9 @@ pub extern "C" fn tirnavoy_nearest(
     table: &mut u32,
     bucket: &mut u32,
 ) -> u32
-    ensures { λ o. ⌜ (o ∷ now (answers .exit) ∷ now (opened .exit) ∷ now (tested .exit) ∷ now (table .exit) ∷ now (bucket .exit) ∷ [], now (marks .exit), now (entries .exit), now (distances .exit)) ≡ searched (nearestEnd (asked (question (index (shape w s) (now (stars .entry)) (now (codes .entry)) (now (starts .entry)) (now (ids .entry))) (now (query .entry))) (now (marks .entry)) (now (entries .entry)) (now (distances .entry))) k) ⌝ }
+    ensures { λ o. ⌜ (o ∷ now (answers .exit) ∷ now (opened .exit) ∷ now (tested .exit) ∷ now (table .exit) ∷ now (bucket .exit) ∷ [], now (marks .exit), now (entries .exit), now (distances .exit)) ≡ searched (nearestEnd (asked (question (index (shape w m) (now (stars .entry)) (now (codes .entry)) (now (starts .entry)) (now (ids .entry))) (now (query .entry))) (now (marks .entry)) (now (entries .entry)) (now (distances .entry))) k) ⌝ }
 {
-    let shape = Shape { w: w, s: s };
+    let shape = Shape { w: w, m: m };
     let found = search::nearest(
         shape,
         stars,
@@ -159,7 +159,7 @@ pub extern "C" fn tirnavoy_nearest(
 #[no_mangle]
 pub extern "C" fn tirnavoy_within(
     w: u32,
-    s: u32,
+    m: u32,
     stars: &[u32],
     codes: &[u64],
     starts: &[u32],
@@ -175,9 +175,9 @@ pub extern "C" fn tirnavoy_within(
     table: &mut u32,
     bucket: &mut u32,
 ) -> u32
-    ensures { λ o. ⌜ (o ∷ now (answers .exit) ∷ now (opened .exit) ∷ now (tested .exit) ∷ now (table .exit) ∷ now (bucket .exit) ∷ [], now (marks .exit), now (entries .exit), now (distances .exit)) ≡ searched (withinEnd (asked (question (index (shape w s) (now (stars .entry)) (now (codes .entry)) (now (starts .entry)) (now (ids .entry))) (now (query .entry))) (now (marks .entry)) (now (entries .entry)) (now (distances .entry))) r) ⌝ }
+    ensures { λ o. ⌜ (o ∷ now (answers .exit) ∷ now (opened .exit) ∷ now (tested .exit) ∷ now (table .exit) ∷ now (bucket .exit) ∷ [], now (marks .exit), now (entries .exit), now (distances .exit)) ≡ searched (withinEnd (asked (question (index (shape w m) (now (stars .entry)) (now (codes .entry)) (now (starts .entry)) (now (ids .entry))) (now (query .entry))) (now (marks .entry)) (now (entries .entry)) (now (distances .entry))) r) ⌝ }
 {
-    let shape = Shape { w: w, s: s };
+    let shape = Shape { w: w, m: m };
     let found = search::within(
         shape,
         stars,
@@ -197,7 +197,7 @@ pub extern "C" fn tirnavoy_within(
 #[no_mangle]
 pub extern "C" fn tirnavoy_batch<'s, 'm, 'o, 'r>(
     w: u32,
-    s: u32,
+    m: u32,
     stars: &'s [u32],
     codes: &'s [u64],
     starts: &'s [u32],
@@ -208,14 +208,14 @@ pub extern "C" fn tirnavoy_batch<'s, 'm, 'o, 'r>(
     outcomes: &'o mut [u32],
     records: &'r mut [Answer],
 ) -> u32
-    ensures { λ r. ⌜ fills r (now (marks .exit)) (now (outcomes .exit)) (now (records .exit)) ≡ batchEnd (batch (index (shape w s) (now (stars .entry)) (now (codes .entry)) (now (starts .entry)) (now (ids .entry))) (now (queries .entry)) k (now (marks .entry)) (now (outcomes .entry)) (length (now (records .entry)))) (now (records .entry)) ⌝ }
+    ensures { λ r. ⌜ fills r (now (marks .exit)) (now (outcomes .exit)) (now (records .exit)) ≡ batchEnd (batch (index (shape w m) (now (stars .entry)) (now (codes .entry)) (now (starts .entry)) (now (ids .entry))) (now (queries .entry)) k (now (marks .entry)) (now (outcomes .entry)) (length (now (records .entry)))) (now (records .entry)) ⌝ }
 {
     if k <= 1024 {
         let mut entries = [0u32; 1024];
         let mut distances = [0u32; 1024];
         return batch::fill(
             w,
-            s,
+            m,
             stars,
             codes,
             starts,
@@ -233,7 +233,7 @@ pub extern "C" fn tirnavoy_batch<'s, 'm, 'o, 'r>(
     let mut distances = [0u32; 65536];
     batch::fill(
         w,
-        s,
+        m,
         stars,
         codes,
         starts,
@@ -332,7 +332,7 @@ fn judged(
 #[no_mangle]
 pub extern "C" fn tirnavoy_verdict(
     w: u32,
-    s: u32,
+    m: u32,
     stars: &[u32],
     codes: &[u64],
     starts: &[u32],
@@ -351,9 +351,9 @@ pub extern "C" fn tirnavoy_verdict(
     table: &mut u32,
     bucket: &mut u32,
 ) -> u32
-    ensures { λ o. ⌜ (o ∷ now (verdict .exit) ∷ now (star .exit) ∷ now (other .exit) ∷ now (distance .exit) ∷ now (farther .exit) ∷ now (opened .exit) ∷ now (tested .exit) ∷ now (table .exit) ∷ now (bucket .exit) ∷ [], now (marks .exit)) ≡ told (verdictEnd (question (index (shape w s) (now (stars .entry)) (now (codes .entry)) (now (starts .entry)) (now (ids .entry))) (now (query .entry))) (now (marks .entry)) t g) ⌝ }
+    ensures { λ o. ⌜ (o ∷ now (verdict .exit) ∷ now (star .exit) ∷ now (other .exit) ∷ now (distance .exit) ∷ now (farther .exit) ∷ now (opened .exit) ∷ now (tested .exit) ∷ now (table .exit) ∷ now (bucket .exit) ∷ [], now (marks .exit)) ≡ told (verdictEnd (question (index (shape w m) (now (stars .entry)) (now (codes .entry)) (now (starts .entry)) (now (ids .entry))) (now (query .entry))) (now (marks .entry)) t g) ⌝ }
 {
-    let shape = Shape { w: w, s: s };
+    let shape = Shape { w: w, m: m };
     let given = search::verdict(shape, stars, codes, starts, ids, query, t, g, marks);
     judged(
         given,
@@ -371,10 +371,10 @@ pub extern "C" fn tirnavoy_verdict(
 
 // How many buckets are open after the step.
 #[no_mangle]
-pub extern "C" fn tirnavoy_blackboard(w: u32, s: u32, step: u32, buckets: &mut u32) -> u32
-    ensures { λ r. ⌜ r ∷ now (buckets .exit) ∷ [] ≡ oneOut (ofBlackboard (blackboardAnswer (shape w s) step)) ⌝ }
+pub extern "C" fn tirnavoy_blackboard(w: u32, m: u32, step: u32, buckets: &mut u32) -> u32
+    ensures { λ r. ⌜ r ∷ now (buckets .exit) ∷ [] ≡ oneOut (ofBlackboard (blackboardAnswer (shape w m) step)) ⌝ }
 {
-    let shape = Shape { w: w, s: s };
+    let shape = Shape { w: w, m: m };
     match blackboard::count(shape, step) {
         Blackboard::Buckets(opened) => {
             *buckets = opened.0;

@@ -5,7 +5,7 @@ use Prim.Native.Nat.{ℕ}
 use lib.Count.{ones}
 use Rattle.theory.specs.Lists.{sum, cat, any, firstFrom, ranked}
 use Rattle.scope.specs.Codes.{bit, distance, substring, codeOf}
-use Rattle.scope.specs.Shape.{listed, m, firstBit, len, startsBefore}
+use Rattle.scope.specs.Shape.{listed, firstBit, len, startsBefore}
 use Rattle.scope.specs.Tables.{substringOf, builtStarts, builtIds, start, idAt, badId, bad}
 use Rattle.scope.specs.Walk.{opens, opened, tested, near}
 use Rattle.scope.specs.Search.{nearestSteps, nearest, withinSteps, within}
@@ -87,7 +87,7 @@ abbrev nine : List ℕ
 nine = 57 ∷ 32 ∷ 119 ∷ 105 ∷ 116 ∷ 104 ∷ 105 ∷ 110 ∷ 32 ∷ 49 ∷ 32 ∷ 50 ∷ 32 ∷ 51 ∷ 10 ∷ []
 
 whole : transcript input ≡ stars5 ++ seven ++ first ++ second ++ eight ++ nine ++ first
-unfolding transcript printed built reply recordOf meaningOf restOf wanted numberAt decimal decimalIn hex answerLines buildEnd buildAnswer builtStarts builtIds nearestEnd withinEnd searchEnd verdictEnd lent nearestAnswer withinAnswer verdictAnswer verdictReport report unless nearestSteps nearest withinSteps within ranked twoStars firstOther rivals verdictSteps nearestRivals verdictOf firstFrom near tested opened opens bad badId start idAt substringOf listed startsBefore m firstBit len substring distance codeOf bit sum cat any ones
+unfolding transcript printed built reply recordOf meaningOf restOf wanted numberAt decimal decimalIn hex answerLines buildEnd buildAnswer builtStarts builtIds nearestEnd withinEnd searchEnd verdictEnd lent nearestAnswer withinAnswer verdictAnswer verdictReport report unless nearestSteps nearest withinSteps within ranked twoStars firstOther rivals verdictSteps nearestRivals verdictOf firstFrom near tested opened opens bad badId start idAt substringOf listed startsBefore firstBit len substring distance codeOf bit sum cat any ones
 whole = refl
 
 -- ---- the end of the input

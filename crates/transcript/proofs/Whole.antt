@@ -41,7 +41,7 @@ module _ (session : Session) (d : Desk) (out s : List ℕ) where
   at-cut : (rec : Record) → recordOf session s ≡ rec → turnAt session d out (chunkOf s) rec ≡ turnAt session d out s rec
   at-cut Over e = refl
   at-cut Bad e = refl
-  at-cut (Head w) e = refl
+  at-cut (Head w m) e = refl
   at-cut (Entry star code) e = refl
   at-cut (Ask q) e =
       ap (λ (y : Reply).
@@ -58,7 +58,7 @@ module _ (session : Session) (d : Desk) (out s : List ℕ) where
 counted : (session : Session) (rec : Record) → ends rec ≡ false → nextOf session rec .records ≡ numberOf session
 counted session Over h = both-ways h
 counted session Bad h = both-ways h
-counted session (Head w) h = refl
+counted session (Head w m) h = refl
 counted session (Entry star code) h = refl
 counted session (Ask q) h = refl
 

@@ -7,15 +7,16 @@ use Rattle.scope.specs.declared.Shape.{Shape}
 use Rattle.scope.specs.Tables.{Index}
 use Rattle.scope.specs.Walk.{question}
 use Rattle.scope.specs.Calls.{Asked, asked, SearchEnd, VerdictEnd, nearestEnd, withinEnd, verdictEnd, skyAnswer}
+use Rattle.reading.specs.declared.Session.{Session}
 use Rattle.reading.specs.declared.Code.{Code}
 use Rattle.reading.specs.declared.Question.{Question}
 use Rattle.reading.specs.declared.Question.the-variants.{Nearest, Within, Verdict, Sky}
 use Rattle.reading.specs.Offsets.{acrossOf, upOf}
 use Rattle.lines.specs.Lines.{near, within, foundLines, judgedLine, skyLine}
 
--- a session's shape: the head's w, and s 8
-abbrev pub shapeOf : ℕ → Shape
-shapeOf w = record { w = w; s = 8 }
+-- a session's shape: the head's w and m
+abbrev pub shapeOf : Session → Shape
+shapeOf session = record { w = session .words; m = session .tables }
 
 -- the words of a code
 abbrev pub wordsOf : ℕ → Code → List ℕ

@@ -3,6 +3,7 @@ use Prim.Native.Nat.{ℕ, zero, suc}
 use mathlib.Core.Bool.{cond}
 use mathlib.Core.List.{List, [], _∷_, _++_}
 use lib.ListN.{replicate}
+use Rattle.scope.specs.declared.Shape.{Shape}
 use Rattle.scope.specs.Tables.{Index, index}
 use Rattle.scope.specs.Calls.{buildEnd}
 use Rattle.reading.specs.declared.Session.{Session}
@@ -14,11 +15,11 @@ use Rattle.reading.specs.State.{startOf, numberOf, nextOf}
 use Rattle.transcript.specs.Opening.{opening, ending}
 use Rattle.transcript.specs.Questions.{shapeOf, wordsOf, Lists, lists, reply}
 
--- the catalogue with the tables that the builder writes; the lists have room for 512 entries with w = 2
-unfoldable pub built : ℕ → List ℕ → List ℕ → Index
-built w stars codes =
-    let x = index (shapeOf w) stars codes (replicate 4112 0) (replicate 8192 0) in
-    index (shapeOf w) stars codes (buildEnd x .starts) (buildEnd x .ids)
+-- the catalogue with the tables that the builder writes; the lists have room for 512 entries with w = 2, whatever m a head names
+unfoldable pub built : Shape → List ℕ → List ℕ → Index
+built sh stars codes =
+    let x = index sh stars codes (replicate 4112 0) (replicate 16384 0) in
+    index sh stars codes (buildEnd x .starts) (buildEnd x .ids)
 
 -- each question is asked with lists of zeros: 8 words of marks, answer lists of 512 places
 abbrev pub fresh : Lists
@@ -28,23 +29,23 @@ fresh = lists (replicate 8 0) (replicate 512 0) (replicate 512 0)
 abbrev pub textIn : Session → List ℕ → List ℕ → List ℕ → Record → List ℕ
 textIn session stars codes s Over = ending session
 textIn session stars codes s Bad = badLine (numberOf session)
-textIn session stars codes s (Head w) = []
+textIn session stars codes s (Head w m) = []
 textIn session stars codes s (Entry star code) = []
 textIn session stars codes s (Ask question) =
-    opening session ++ reply (numberOf session) (built (session .words) stars codes) fresh question s .text
+    opening session ++ reply (numberOf session) (built (shapeOf session) stars codes) fresh question s .text
 
 -- the entries with one more
 abbrev pub starsWith : List ℕ → Record → List ℕ
 starsWith stars Over = stars
 starsWith stars Bad = stars
-starsWith stars (Head w) = stars
+starsWith stars (Head w m) = stars
 starsWith stars (Entry star code) = stars ++ star ∷ []
 starsWith stars (Ask question) = stars
 
 abbrev pub codesWith : ℕ → List ℕ → Record → List ℕ
 codesWith w codes Over = codes
 codesWith w codes Bad = codes
-codesWith w codes (Head v) = codes
+codesWith w codes (Head v m) = codes
 codesWith w codes (Entry star code) = codes ++ wordsOf w code
 codesWith w codes (Ask question) = codes
 

@@ -35,7 +35,7 @@ desk stars codes starts ids l = record { stars = stars; codes = codes; starts = 
 -- the catalogue: the places that entries have filled
 abbrev pub catalogue : Session → List ℕ → List ℕ → List ℕ → List ℕ → Index
 catalogue session stars codes starts ids =
-    index (shapeOf (session .words)) (take (session .entries) stars) (take (session .entries * session .words) codes) starts ids
+    index (shapeOf session) (take (session .entries) stars) (take (session .entries * session .words) codes) starts ids
 
 -- the code of entry e behind those before it
 abbrev pub codeKept : ℕ → ℕ → Code → List ℕ → List ℕ
@@ -58,7 +58,7 @@ replyTo session d question s = reply (numberOf session) (indexFor session d) (d 
 abbrev pub deskAfter : Session → Desk → List ℕ → Record → Desk
 deskAfter session d s Over = d
 deskAfter session d s Bad = d
-deskAfter session d s (Head w) = d
+deskAfter session d s (Head w m) = d
 deskAfter session d s (Entry star code) =
     desk (set (d .stars) (session .entries) star) (codeKept (session .words) (session .entries) code (d .codes)) (d .starts) (d .ids) (d .lists)
 deskAfter session d s (Ask question) =
@@ -68,7 +68,7 @@ deskAfter session d s (Ask question) =
 abbrev pub textOf : Session → Desk → List ℕ → Record → List ℕ
 textOf session d s Over = ending session
 textOf session d s Bad = badLine (numberOf session)
-textOf session d s (Head w) = []
+textOf session d s (Head w m) = []
 textOf session d s (Entry star code) = []
 textOf session d s (Ask question) = opening session ++ replyTo session d question s .text
 
@@ -100,4 +100,4 @@ pub data Ran : Session → Desk → List ℕ → List ℕ → Type 0 where
 
 -- the lists that the program begins with
 abbrev pub empty : Desk
-empty = desk (replicate 512 0) (replicate 1024 0) (replicate 4112 0) (replicate 8192 0) fresh
+empty = desk (replicate 512 0) (replicate 1024 0) (replicate 4112 0) (replicate 16384 0) fresh

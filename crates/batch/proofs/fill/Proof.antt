@@ -140,14 +140,14 @@ abbrev Lasts : Type 0
 Lasts = U × (U × (U × (U × (U × (U × (U × (U × (U × (U × (List ℕ × (List ℕ × (List ℕ × (List ℕ × U)))))))))))))
 
 module _ {M : Type 1} (𝓤 : URA M) (H : Heap 𝓤) (A : Atoms 𝓤) (W : Given 𝓤 H A) (mem : Memory → SProp 𝓤) (run : Routine → Fun 𝓤) (κ₀ κ₁ κ₂ κ₃ κ₄ κ₅ : Lft) (q₀ q₁ q₂ q₃ q₄ q₅ : Share)
-    (w s k : ℕ) (x₃ x₄ x₅ x₆ x₇ : Nums) (b₉ o₉ : ℕ) (γ₉ : GName) (ms₀ : List ℕ) (b₁₀ o₁₀ : ℕ) (γ₁₀ : GName) (os₀ : List ℕ) (b₁₁ o₁₁ : ℕ) (γ₁₁ : GName) (es₀ : List ℕ) (b₁₂ o₁₂ : ℕ) (γ₁₂ : GName) (ds₀ : List ℕ) (b o : ℕ) (γ : GName) (ys : List Answer)
-    (w-fits : w < 2 ^ 32) (s-fits : s < 2 ^ 32) (k-fits : k < 2 ^ 32) (room₉ : Room u64 (length ms₀)) (room₁₀ : Room u32 (length os₀)) (room₁₁ : Room u32 (length es₀)) (room₁₂ : Room u32 (length ds₀)) (room : Room R (length ys)) (scratch : Scratch k es₀ ds₀) where
+    (w m k : ℕ) (x₃ x₄ x₅ x₆ x₇ : Nums) (b₉ o₉ : ℕ) (γ₉ : GName) (ms₀ : List ℕ) (b₁₀ o₁₀ : ℕ) (γ₁₀ : GName) (os₀ : List ℕ) (b₁₁ o₁₁ : ℕ) (γ₁₁ : GName) (es₀ : List ℕ) (b₁₂ o₁₂ : ℕ) (γ₁₂ : GName) (ds₀ : List ℕ) (b o : ℕ) (γ : GName) (ys : List Answer)
+    (w-fits : w < 2 ^ 32) (m-fits : m < 2 ^ 32) (k-fits : k < 2 ^ 32) (room₉ : Room u64 (length ms₀)) (room₁₀ : Room u32 (length os₀)) (room₁₁ : Room u32 (length es₀)) (room₁₂ : Room u32 (length ds₀)) (room : Room R (length ys)) (scratch : Scratch k es₀ ds₀) where
   abbrev n : ℕ
   n = length ys
 
   -- what is handed in
   abbrev c₀ : Handed
-  c₀ = batch (index (shape w s) (x₃ .now) (x₄ .now) (x₅ .now) (x₆ .now)) (x₇ .now) k ms₀ os₀ n
+  c₀ = batch (index (shape w m) (x₃ .now) (x₄ .now) (x₅ .now) (x₆ .now)) (x₇ .now) k ms₀ os₀ n
 
   abbrev with₀ : List ℕ → List ℕ → Handed
   with₀ ms os = with c₀ ms os
@@ -193,16 +193,16 @@ module _ {M : Type 1} (𝓤 : URA M) (H : Heap 𝓤) (A : Atoms 𝓤) (W : Given
   machS r = vstruct (vcons (vint w32 (r .more)) (vcons (vint w32 (r .number)) (vcons (vint w32 (r .entry)) (vcons (vint w32 (r .star)) (vcons (vint w32 (r .distance)) vnil)))))
 
   abbrev a : ℕ × (ℕ × (Nums × (Nums × (Nums × (Nums × (Nums × (ℕ × (Nums × (Nums × (Nums × (Nums × (RefT (List Answer) × U))))))))))))
-  a = (w, (s, (x₃, (x₄, (x₅, (x₆, (x₇, (k, (xm γ₉ ms₀, (xo γ₁₀ os₀, (xe γ₁₁ es₀, (xd γ₁₂ ds₀, (x ys, tt)))))))))))))
+  a = (w, (m, (x₃, (x₄, (x₅, (x₆, (x₇, (k, (xm γ₉ ms₀, (xo γ₁₀ os₀, (xe γ₁₁ es₀, (xd γ₁₂ ds₀, (x ys, tt)))))))))))))
 
   abbrev Vs : Type 0
   Vs = List Val
 
   abbrev vals : Vs × (Vs × (Vs × (Vs × (Vs × (Vs × (Vs × (Vs × (Vs × (Vs × (Vs × (Vs × (Vs × U))))))))))))
-  vals = (vint w32 w ∷ [], (vint w32 s ∷ [], (sh x₃ ∷ [], (sh x₄ ∷ [], (sh x₅ ∷ [], (sh x₆ ∷ [], (sh x₇ ∷ [], (vint w32 k ∷ [], (sm ms₀ ∷ [], (so os₀ ∷ [], (se es₀ ∷ [], (sd ds₀ ∷ [], (rv ∷ [], tt)))))))))))))
+  vals = (vint w32 w ∷ [], (vint w32 m ∷ [], (sh x₃ ∷ [], (sh x₄ ∷ [], (sh x₅ ∷ [], (sh x₆ ∷ [], (sh x₇ ∷ [], (vint w32 k ∷ [], (sm ms₀ ∷ [], (so os₀ ∷ [], (se es₀ ∷ [], (sd ds₀ ∷ [], (rv ∷ [], tt)))))))))))))
 
   abbrev flats : List Val
-  flats = vint w32 w ∷ vint w32 s ∷ sh x₃ ∷ sh x₄ ∷ sh x₅ ∷ sh x₆ ∷ sh x₇ ∷ vint w32 k ∷ sm ms₀ ∷ so os₀ ∷ se es₀ ∷ sd ds₀ ∷ rv ∷ []
+  flats = vint w32 w ∷ vint w32 m ∷ sh x₃ ∷ sh x₄ ∷ sh x₅ ∷ sh x₆ ∷ sh x₇ ∷ vint w32 k ∷ sm ms₀ ∷ so os₀ ∷ se es₀ ∷ sd ds₀ ∷ rv ∷ []
 
   -- what the shared lists own, from entry to exit
   abbrev Own32 : Nums → Fml
@@ -230,16 +230,16 @@ module _ {M : Type 1} (𝓤 : URA M) (H : Heap 𝓤) (A : Atoms 𝓤) (W : Given
       pureI ! (at-slice R (x us) (rv ∷ [])) (tt, (tt, tt)) (ap (λ (m : ℕ). sliceVal (b, o) m ∷ []) (sym e), subst (Room R) (sym e) room) $ fjoin ! $ nothing ! $ move ! (1 ∷ 0 ∷ []) $ fjoin ! $ move ! (1 ∷ 0 ∷ []) $ fjoin ! $
       move ! (1 ∷ 0 ∷ []) $ fjoin ! $ move ! (1 ∷ 0 ∷ []) $ fjoin ! $ move ! (1 ∷ 0 ∷ []) $ fjoin ! $ owned ! u32 (Is u32) (uint-makes 𝓤 H A W w32) k _ (refl, k-fits) $ fjoin ! $ move ! (1 ∷ []) $ fsplit ! $ move ! (1 ∷ []) $ fsplit ! $
       move ! (1 ∷ []) $ fsplit ! $ move ! (1 ∷ []) $ fsplit ! $ move ! (1 ∷ []) $ fsplit ! $ move ! (0 ∷ 6 ∷ []) $ fjoin ! $ move ! (2 ∷ 0 ∷ []) $ fjoin ! $ move ! (2 ∷ 0 ∷ []) $ fjoin ! $ move ! (2 ∷ 0 ∷ []) $ fjoin ! $
-      move ! (2 ∷ 0 ∷ []) $ fjoin ! $ owned ! u32 (Is u32) (uint-makes 𝓤 H A W w32) s _ (refl, s-fits) $ fjoin ! $ owned ! u32 (Is u32) (uint-makes 𝓤 H A W w32) w _ (refl, w-fits) $ fjoin ! $
+      move ! (2 ∷ 0 ∷ []) $ fjoin ! $ owned ! u32 (Is u32) (uint-makes 𝓤 H A W w32) m _ (refl, m-fits) $ fjoin ! $ owned ! u32 (Is u32) (uint-makes 𝓤 H A W w32) w _ (refl, w-fits) $ fjoin ! $
       owned ! u32 (Is u32) (uint-makes 𝓤 H A W w32) v _ (refl, v-fits) $ keep ! (1 ∷ 0 ∷ []) $ done !
 
   -- ---- the call of `next` at place i, with the marks ms, the outcomes os and the scratch lists es and ds
   module _ (ms os es ds : List ℕ) (i ν : ℕ) (δm δo δe δd : GName) where
     abbrev args : ℕ × (ℕ × (Nums × (Nums × (Nums × (Nums × (Nums × (ℕ × (ℕ × (ℕ × (Nums × (Nums × (Nums × (Nums × U)))))))))))))
-    args = (w, (s, (x₃, (x₄, (x₅, (x₆, (x₇, (k, (n, (i, (xm δm ms, (xo δo os, (xe δe es, (xd δd ds, tt))))))))))))))
+    args = (w, (m, (x₃, (x₄, (x₅, (x₆, (x₇, (k, (n, (i, (xm δm ms, (xo δo os, (xe δe es, (xd δd ds, tt))))))))))))))
 
     abbrev to : Next 𝓤 H A mem run .Ghost
-    to = (((κ₀, (ν ∷ [], tt)), (q₀, (fullShare, tt)), tt, args, (vint w32 w ∷ [], (vint w32 s ∷ [], (sh x₃ ∷ [], (sh x₄ ∷ [], (sh x₅ ∷ [], (sh x₆ ∷ [], (sh x₇ ∷ [], (vint w32 k ∷ [], (vint w64 n ∷ [], (vint w64 i ∷ [], (sm ms ∷ [], (so os ∷ [], (se es ∷ [], (sd ds ∷ [], tt))))))))))))))), tt)
+    to = (((κ₀, (ν ∷ [], tt)), (q₀, (fullShare, tt)), tt, args, (vint w32 w ∷ [], (vint w32 m ∷ [], (sh x₃ ∷ [], (sh x₄ ∷ [], (sh x₅ ∷ [], (sh x₆ ∷ [], (sh x₇ ∷ [], (vint w32 k ∷ [], (vint w64 n ∷ [], (vint w64 i ∷ [], (sm ms ∷ [], (so os ∷ [], (se es ∷ [], (sd ds ∷ [], tt))))))))))))))), tt)
 
     abbrev M′ : Fml
     M′ = MutSlice (named 1) (ν ∷ []) u64 .own (xm δm ms) (sm ms ∷ [])
@@ -254,7 +254,7 @@ module _ {M : Type 1} (𝓤 : URA M) (H : Heap 𝓤) (A : Atoms 𝓤) (W : Given
     D′ = MutSlice (named 1) (ν ∷ []) u32 .own (xd δd ds) (sd ds ∷ [])
 
     abbrev Passed : Fml
-    Passed = fsep (u32 .own w (vint w32 w ∷ [])) (fsep (u32 .own s (vint w32 s ∷ [])) (fsep (Own32 x₃) (fsep (Own64 x₄) (fsep (Own32 x₅) (fsep (Own32 x₆) (fsep (Own64 x₇)
+    Passed = fsep (u32 .own w (vint w32 w ∷ [])) (fsep (u32 .own m (vint w32 m ∷ [])) (fsep (Own32 x₃) (fsep (Own64 x₄) (fsep (Own32 x₅) (fsep (Own32 x₆) (fsep (Own64 x₇)
         (fsep (u32 .own k (vint w32 k ∷ [])) (fsep (usize .own n (vint w64 n ∷ [])) (fsep (usize .own i (vint w64 i ∷ [])) (fsep M′ (fsep O′ (fsep E′ (fsep D′ ftrue)))))))))))))
 
     asked : Before (with₀ ms os) i es ds → ent 𝓤 (sep 𝓤 (sep 𝓤 (A .lft κ₀ q₀) (sep 𝓤 (A .lft (ν ∷ []) fullShare) (sem 𝓤 H A ftrue))) (sem 𝓤 H A Passed)) (Next 𝓤 H A mem run .pre to)
@@ -273,7 +273,7 @@ module _ {M : Type 1} (𝓤 : URA M) (H : Heap 𝓤) (A : Atoms 𝓤) (W : Given
         use1 W (‵ (Own32 x₆) ⊛ ‵ (Own32 x₆)) (shr-slice-copy 𝓤 H A W (named 0) κ₀ u32 .twice x₆ (sh x₆ ∷ [])) $ split ! $ move ! (2 ∷ []) $ fsplit ! $
         use1 W (‵ (Own64 x₇) ⊛ ‵ (Own64 x₇)) (shr-slice-copy 𝓤 H A W (named 0) κ₀ u64 .twice x₇ (sh x₇ ∷ [])) $ split ! $ move ! (0 ∷ 2 ∷ []) $ fjoin ! $ move ! (2 ∷ 0 ∷ []) $ fjoin ! $ move ! (3 ∷ 0 ∷ []) $ fjoin ! $ move ! (4 ∷ 0 ∷ []) $
         fjoin ! $ move ! (5 ∷ 0 ∷ []) $ fjoin ! $ move ! (1 ∷ 6 ∷ []) $ fjoin ! $ move ! (2 ∷ 0 ∷ []) $ fjoin ! $ move ! (2 ∷ 0 ∷ []) $ fjoin ! $ move ! (2 ∷ 0 ∷ []) $ fjoin ! $ move ! (2 ∷ 0 ∷ []) $ fjoin ! $
-        owned ! u32 (Is u32) (uint-makes 𝓤 H A W w32) s _ (refl, s-fits) $ fjoin ! $ owned ! u32 (Is u32) (uint-makes 𝓤 H A W w32) w _ (refl, w-fits) $ fjoin ! $ nothing ! $ move ! (3 ∷ 0 ∷ []) $ join ! $ move ! (3 ∷ 0 ∷ []) $ join ! $
+        owned ! u32 (Is u32) (uint-makes 𝓤 H A W w32) m _ (refl, m-fits) $ fjoin ! $ owned ! u32 (Is u32) (uint-makes 𝓤 H A W w32) w _ (refl, w-fits) $ fjoin ! $ nothing ! $ move ! (3 ∷ 0 ∷ []) $ join ! $ move ! (3 ∷ 0 ∷ []) $ join ! $
         use2 W (raw (Next 𝓤 H A mem run .pre to)) (asked before) $ frame ! $ done !
 
   module _ (𝓣 : Tables 𝓤 H) (known : Triple 𝓤 (𝓣 .C #batch·next) (Next 𝓤 H A mem run)) (l₀ l₁ l₂ l₃ l₄ l₅ l₆ l₇ l₈ l₉ l₁₀ l₁₁ l₁₂ l₁₃ l₁₄ l₁₅ l₁₆ l₁₇ l₁₈ l₁₉ l₂₀ l₂₁ l₂₂ l₂₃ l₂₄ l₂₅ l₂₆ l₂₇ l₂₈ : ℕ) where
@@ -288,7 +288,7 @@ module _ {M : Type 1} (𝓤 : URA M) (H : Heap 𝓤) (A : Atoms 𝓤) (W : Given
 
     -- what no turn touches
     abbrev Frame : List (Item 𝓤)
-    Frame = ‵ (fat fullShare num32 l₁ 0 (vint w32 w)) ∷ ‵ (fat fullShare num32 l₂ 0 (vint w32 s)) ∷ ‵ (fat fullShare (ty 3) l₃ 0 (sh x₃)) ∷ ‵ (fat fullShare (ty 4) l₄ 0 (sh x₄)) ∷ ‵ (fat fullShare (ty 5) l₅ 0 (sh x₅)) ∷ ‵ (fat fullShare (ty 6) l₆ 0 (sh x₆)) ∷ ‵ (fat fullShare (ty 7) l₇ 0 (sh x₇))
+    Frame = ‵ (fat fullShare num32 l₁ 0 (vint w32 w)) ∷ ‵ (fat fullShare num32 l₂ 0 (vint w32 m)) ∷ ‵ (fat fullShare (ty 3) l₃ 0 (sh x₃)) ∷ ‵ (fat fullShare (ty 4) l₄ 0 (sh x₄)) ∷ ‵ (fat fullShare (ty 5) l₅ 0 (sh x₅)) ∷ ‵ (fat fullShare (ty 6) l₆ 0 (sh x₆)) ∷ ‵ (fat fullShare (ty 7) l₇ 0 (sh x₇))
         ∷ ‵ (fat fullShare num32 l₈ 0 (vint w32 k)) ∷ ‵ (fat fullShare (ty 9) l₉ 0 (sm ms₀)) ∷ ‵ (fat fullShare (ty 10) l₁₀ 0 (so os₀)) ∷ ‵ (fat fullShare (ty 11) l₁₁ 0 (se es₀)) ∷ ‵ (fat fullShare (ty 12) l₁₂ 0 (sd ds₀)) ∷ ‵ (fat fullShare (ty 13) l₁₃ 0 rv) ∷ ‵ (froom num32 l₀ 0)
         ∷ ‵ (fobor κ₅ q₅ (Held R n b o γ)) ∷ ‵ (fobs γ (codedHoleys R .code (heres R ys))) ∷ ‵ (fauth γ (codedHoleys R .code (heres R ys)))
         ∷ ‵ (fdies (num32) l₀) ∷ ‵ (fdies (num32) l₁) ∷ ‵ (fdies (num32) l₂) ∷ ‵ (fdies (ty 3) l₃) ∷ ‵ (fdies (ty 4) l₄) ∷ ‵ (fdies (ty 5) l₅) ∷ ‵ (fdies (ty 6) l₆) ∷ ‵ (fdies (ty 7) l₇) ∷ ‵ (fdies (num32) l₈) ∷ ‵ (fdies (ty 9) l₉) ∷ ‵ (fdies (ty 10) l₁₀) ∷ ‵ (fdies (ty 11) l₁₁) ∷ ‵ (fdies (ty 12) l₁₂) ∷ ‵ (fdies (ty 13) l₁₃) ∷ ‵ (fdies (num32) l₁₄) ∷ ‵ (fdies (word) l₁₅) ∷ ‵ (fdies (ty 16) l₁₆) ∷ ‵ (fdies (word) l₁₇) ∷ ‵ (fdies (ty 18) l₁₈) ∷ ‵ (fdies (ty 19) l₁₉) ∷ ‵ (fdies (ty 20) l₂₀) ∷ ‵ (fdies (ty 21) l₂₁) ∷ ‵ (fdies (ty 22) l₂₂) ∷ ‵ (fdies (ty 23) l₂₃) ∷ ‵ (fdies (ty 24) l₂₄) ∷ ‵ (fdies (ty 25) l₂₅) ∷ ‵ (fdies (tyBool) l₂₆) ∷ ‵ (fdies (ty 27) l₂₇) ∷ ‵ (fdies (tyPtr) l₂₈) ∷ []
@@ -508,7 +508,7 @@ module _ {M : Type 1} (𝓤 : URA M) (H : Heap 𝓤) (A : Atoms 𝓤) (W : Given
       qed W ((‵ (flft κ₀ q₀) ⊛ (‵ (flft κ₁ q₁) ⊛ (‵ (flft κ₂ q₂) ⊛ (‵ (flft κ₃ q₃) ⊛ (‵ (flft κ₄ q₄) ⊛ (‵ (flft κ₅ q₅) ⊛ ‵ ftrue)))))) ∷ ‵ (owns (u32 ∷ u32 ∷ ShrSlice (named 0) κ₀ u32 ∷ ShrSlice (named 0) κ₀ u64 ∷ ShrSlice (named 0) κ₀ u32 ∷ ShrSlice (named 0) κ₀ u32 ∷ ShrSlice (named 0) κ₀ u64 ∷ u32 ∷ MutSlice (named 1) κ₁ u64 ∷ MutSlice (named 2) κ₂ u32 ∷ MutSlice (named 3) κ₃ u32 ∷ MutSlice (named 4) κ₄ u32 ∷ MutSlice (named 5) κ₅ R ∷ []) a vals) ∷ []) ∵
       enter ! (𝓣 .C) (𝓣 .Λ) code.function flats _ $
       alloc1 ! (λ l₀. alloc1 ! (λ l₁. alloc1 ! (λ l₂. alloc1 ! (λ l₃. alloc1 ! (λ l₄. alloc1 ! (λ l₅. alloc1 ! (λ l₆. alloc1 ! (λ l₇. alloc1 ! (λ l₈. alloc1 ! (λ l₉. alloc1 ! (λ l₁₀. alloc1 ! (λ l₁₁. alloc1 ! (λ l₁₂. alloc1 ! (λ l₁₃. alloc1 ! (λ l₁₄. alloc1 ! (λ l₁₅. alloc1 ! (λ l₁₆. alloc1 ! (λ l₁₇. alloc1 ! (λ l₁₈. alloc1 ! (λ l₁₉. alloc1 ! (λ l₂₀. alloc1 ! (λ l₂₁. alloc1 ! (λ l₂₂. alloc1 ! (λ l₂₃. alloc1 ! (λ l₂₄. alloc1 ! (λ l₂₅. alloc1 ! (λ l₂₆. alloc1 ! (λ l₂₇. alloc1 ! (λ l₂₈. alloc0 ! $ params1 ! $
-      pass1 ! (init ! 54 refl (tt, record { fits = w-fits })) $ pass1 ! (init ! 52 refl (tt, record { fits = s-fits })) $ pass1 ! (init ! 50 refl (tt, (tt, (record { fits = r₃ .0 }, tt)))) $
+      pass1 ! (init ! 54 refl (tt, record { fits = w-fits })) $ pass1 ! (init ! 52 refl (tt, record { fits = m-fits })) $ pass1 ! (init ! 50 refl (tt, (tt, (record { fits = r₃ .0 }, tt)))) $
       pass1 ! (init ! 48 refl (tt, (tt, (record { fits = r₄ .0 }, tt)))) $ pass1 ! (init ! 46 refl (tt, (tt, (record { fits = r₅ .0 }, tt)))) $ pass1 ! (init ! 44 refl (tt, (tt, (record { fits = r₆ .0 }, tt)))) $
       pass1 ! (init ! 42 refl (tt, (tt, (record { fits = r₇ .0 }, tt)))) $ pass1 ! (init ! 40 refl (tt, record { fits = k-fits })) $ pass1 ! (init ! 38 refl (tt, (tt, (record { fits = room₉ .0 }, tt)))) $
       pass1 ! (init ! 36 refl (tt, (tt, (record { fits = room₁₀ .0 }, tt)))) $ pass1 ! (init ! 34 refl (tt, (tt, (record { fits = room₁₁ .0 }, tt)))) $ pass1 ! (init ! 32 refl (tt, (tt, (record { fits = room₁₂ .0 }, tt)))) $

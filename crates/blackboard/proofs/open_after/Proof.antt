@@ -1,78 +1,68 @@
--- `blackboard::open_after` meets its contract: the formula of 01, whose two products are small. Assumes nothing.
-use native.Mathlib.Nat.{add-le-add}
+-- `blackboard::open_after` meets its contract. The invariant: the count is that of the first z tables. Assumes nothing.
+use mathlib.Core.Path.{_≡_, refl, ap, _∙_}
+use Prim.Native.Nat.{_-_, _+_, _≤_}
 use native.Mathlib.Omega.{arith}
-use mir.Facts.{fits-le, fits-lit}
 use borrow.Author.Needs.{needs}
-use Rattle.blackboard.proofs.Steps.{Step, step-of, product-le, formula}
+use Rattle.theory.specs.Lists.{sum}
+use Rattle.scope.specs.Shape.{m}
+use Rattle.scope.specs.Walk.{openIn, openAfter}
+use Rattle.scope.proofs.Shapes.{facts}
+use Rattle.blackboard.proofs.Steps.{more, small}
 use Rattle.blackboard.proofs.open_after.Statement.{statement}
 use Rattle.blackboard.proofs.open_after.Tie as tie
 
-tables-requires : tie.Need-tables-requires
-tables-requires c κs = search needs
+abbrev Inv-loop : tie.InvT-loop
+Inv-loop shape step t buckets₀ z₀ buckets z = (z ≤ m shape) × (buckets ≡ sum (openIn shape step) z)
 
-known : (c : tie.After-tables) → Step (c .before .args .shape) (c .before .args .step) (c .tables .result)
-known c = step-of (c .before .args .shape) (c .before .args .step) (c .tables .result) (c .before .pre .0) (c .before .pre .1) (c .tables .ensures)
+abbrev μ-loop : tie.MeasureT-loop
+μ-loop shape step t buckets₀ z₀ buckets z = m shape - z
 
-cast-m : tie.Need-cast-m
-cast-m c = let k = known c in omega arith
+loop-holds : tie.Need-loop-holds Inv-loop μ-loop
+unfolding sum
+loop-holds c = (omega arith, refl)
 
-div-r : tie.Need-div-r
-div-r c = known c .some-tables
+open-in-requires : tie.Need-open-in-requires Inv-loop μ-loop
+open-in-requires c κs = search needs
 
-rem-a : tie.Need-rem-a
-rem-a c = known c .some-tables
+next : (c : tie.After-open-in Inv-loop μ-loop) → let l = c .before .before .loop in let a = c .before .before .before .args in
+    l .buckets + c .open-in .result ≡ sum (openIn (a .shape) (a .step)) (l .z + 1)
+next c =
+    let s : tie.Start Inv-loop μ-loop = search in
+    more (s .args .shape) (s .args .step) (s .pre .0) _ _ _ (c .before .before .loop .inv .1) (c .open-in .ensures)
 
-add-first-binomials : tie.Need-add-first-binomials
-add-first-binomials c = let k = known c in omega arith
+add-buckets : tie.Need-add-buckets Inv-loop μ-loop
+add-buckets c =
+    let s : tie.Start Inv-loop μ-loop = search in
+    let z = c .before .before .loop .z in
+    let f = facts (s .args .shape) (s .pre .0) in
+    omega (arith, next c, small (s .args .shape) (s .args .step) (s .pre .0) (z + 1) (omega (arith, f .few-tables)))
 
-first-binomials-requires : tie.Need-first-binomials-requires
-first-binomials-requires c κs = let k = known c in (omega arith, omega arith)
+add-z : tie.Need-add-z Inv-loop μ-loop
+add-z c = search needs
 
-first-binomials-requires-2 : tie.Need-first-binomials-requires-2
-first-binomials-requires-2 c κs = let k = known (c .before) in (omega arith, omega arith)
+loop-less : tie.Need-loop-less Inv-loop μ-loop
+loop-less c = omega arith
 
-add-result : tie.Need-add-result
-add-result c = let k = known (c .before .before) in omega arith
+loop-again : tie.Need-loop-again Inv-loop μ-loop
+loop-again c = (omega arith, next c)
 
-mul-result : tie.Need-mul-result
-mul-result c = let k = known (c .before .before) in fits-le (product-le _ _ _ k (omega arith) (c .before .first-binomials .ensures)) (fits-lit tt)
-
-sub-result : tie.Need-sub-result
-sub-result c = let k = known (c .before .before) in omega arith
-
-sub-result-2 : tie.Need-sub-result-2
-sub-result-2 c = let k = known (c .before .before) in omega arith
-
-mul-result-2 : tie.Need-mul-result-2
-mul-result-2 c = let k = known (c .before .before) in fits-le (product-le _ _ _ k (omega arith) (c .first-binomials2 .ensures)) (fits-lit tt)
-
-add-result-2 : tie.Need-add-result-2
-add-result-2 c =
-    let k = known (c .before .before) in
-    fits-le
-    (add-le-add (product-le _ _ _ k (omega arith) (c .before .first-binomials .ensures)) (product-le _ _ _ k (omega arith) (c .first-binomials2 .ensures)))
-    (fits-lit tt)
-
-returns : tie.Need-returns
+returns : tie.Need-returns Inv-loop μ-loop
+unfolding openAfter
 returns c =
-    let at = c .before .before in
-    formula (at .before .args .shape) (at .before .args .step) (at .tables .result) _ _ (at .tables .ensures) (c .before .first-binomials .ensures) (c .first-binomials2 .ensures)
+    let s : tie.Start Inv-loop μ-loop = search in
+    let done : c .before .loop .z ≡ m (s .args .shape) = omega arith in
+    c .before .loop .inv .1 ∙ ap (sum (openIn (s .args .shape) (s .args .step))) done
 
 pub open-after-spec : {M : Type 1} → statement M
 open-after-spec =
     tie.close
     (tie.spec
-    tables-requires
-    cast-m
-    div-r
-    rem-a
-    add-first-binomials
-    first-binomials-requires
-    first-binomials-requires-2
-    add-result
-    mul-result
-    sub-result
-    sub-result-2
-    mul-result-2
-    add-result-2
+    Inv-loop
+    μ-loop
+    loop-holds
+    open-in-requires
+    add-buckets
+    add-z
+    loop-less
+    loop-again
     returns)

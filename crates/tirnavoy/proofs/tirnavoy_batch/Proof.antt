@@ -134,11 +134,11 @@ room-of : (N : ℕ) → Room u32 N → Room u32 (length {A = ℕ} (replicate N 0
 room-of N h = subst (Room u32) (sym (length-replicate {A = ℕ} N 0)) h
 
 module _ {M : Type 1} (𝓤 : URA M) (H : Heap 𝓤) (A : Atoms 𝓤) (W : Given 𝓤 H A) (mem : Memory → SProp 𝓤) (run : Routine → Fun 𝓤) (κ₀ κ₁ κ₂ κ₃ : Lft) (q₀ q₁ q₂ q₃ : Share)
-    (w s k : ℕ) (x₃ x₄ x₅ x₆ x₇ x₉ x₁₀ : Nums) (x₁₁ : RefT (List Answer))
-    (w-fits : w < 2 ^ 32) (s-fits : s < 2 ^ 32) (k-fits : k < 2 ^ 32) (room₉ : Room u64 (length (x₉ .now))) (room₁₀ : Room u32 (length (x₁₀ .now))) (room : Room R (length (x₁₁ .now))) where
+    (w m k : ℕ) (x₃ x₄ x₅ x₆ x₇ x₉ x₁₀ : Nums) (x₁₁ : RefT (List Answer))
+    (w-fits : w < 2 ^ 32) (m-fits : m < 2 ^ 32) (k-fits : k < 2 ^ 32) (room₉ : Room u64 (length (x₉ .now))) (room₁₀ : Room u32 (length (x₁₀ .now))) (room : Room R (length (x₁₁ .now))) where
   -- what is handed in
   abbrev c₀ : Handed
-  c₀ = batch (index (shape w s) (x₃ .now) (x₄ .now) (x₅ .now) (x₆ .now)) (x₇ .now) k (x₉ .now) (x₁₀ .now) (length (x₁₁ .now))
+  c₀ = batch (index (shape w m) (x₃ .now) (x₄ .now) (x₅ .now) (x₆ .now)) (x₇ .now) k (x₉ .now) (x₁₀ .now) (length (x₁₁ .now))
 
   -- a local array as a borrow, under a name and at a list; and the machine values
   abbrev xl : ℕ → GName → List ℕ → Nums
@@ -154,16 +154,16 @@ module _ {M : Type 1} (𝓤 : URA M) (H : Heap 𝓤) (A : Atoms 𝓤) (W : Given
   rv = sliceVal (x₁₁ .ptr) (length (x₁₁ .now))
 
   abbrev a : ℕ × (ℕ × (Nums × (Nums × (Nums × (Nums × (Nums × (ℕ × (Nums × (Nums × (RefT (List Answer) × U))))))))))
-  a = (w, (s, (x₃, (x₄, (x₅, (x₆, (x₇, (k, (x₉, (x₁₀, (x₁₁, tt)))))))))))
+  a = (w, (m, (x₃, (x₄, (x₅, (x₆, (x₇, (k, (x₉, (x₁₀, (x₁₁, tt)))))))))))
 
   abbrev Vs : Type 0
   Vs = List Val
 
   abbrev vals : Vs × (Vs × (Vs × (Vs × (Vs × (Vs × (Vs × (Vs × (Vs × (Vs × (Vs × U))))))))))
-  vals = (vint w32 w ∷ [], (vint w32 s ∷ [], (sh x₃ ∷ [], (sh x₄ ∷ [], (sh x₅ ∷ [], (sh x₆ ∷ [], (sh x₇ ∷ [], (vint w32 k ∷ [], (sh x₉ ∷ [], (sh x₁₀ ∷ [], (rv ∷ [], tt)))))))))))
+  vals = (vint w32 w ∷ [], (vint w32 m ∷ [], (sh x₃ ∷ [], (sh x₄ ∷ [], (sh x₅ ∷ [], (sh x₆ ∷ [], (sh x₇ ∷ [], (vint w32 k ∷ [], (sh x₉ ∷ [], (sh x₁₀ ∷ [], (rv ∷ [], tt)))))))))))
 
   abbrev flats : List Val
-  flats = vint w32 w ∷ vint w32 s ∷ sh x₃ ∷ sh x₄ ∷ sh x₅ ∷ sh x₆ ∷ sh x₇ ∷ vint w32 k ∷ sh x₉ ∷ sh x₁₀ ∷ rv ∷ []
+  flats = vint w32 w ∷ vint w32 m ∷ sh x₃ ∷ sh x₄ ∷ sh x₅ ∷ sh x₆ ∷ sh x₇ ∷ vint w32 k ∷ sh x₉ ∷ sh x₁₀ ∷ rv ∷ []
 
   -- what the shared lists own, from entry to exit; and the lists that are handed on
   abbrev Own32 : Nums → Fml
@@ -195,7 +195,7 @@ module _ {M : Type 1} (𝓤 : URA M) (H : Heap 𝓤) (A : Atoms 𝓤) (W : Given
       nothing ! $ move ! (4 ∷ 0 ∷ []) $ join ! $ move ! (4 ∷ 0 ∷ []) $ join ! $ move ! (4 ∷ 0 ∷ []) $ join ! $ move ! (4 ∷ 0 ∷ []) $ join ! $ frame ! $ nothing ! $ move ! (3 ∷ 0 ∷ []) $ fjoin ! $ move ! (2 ∷ 0 ∷ []) $ fjoin ! $
       move ! (1 ∷ 0 ∷ []) $ fjoin ! $ owned ! u32 (Is u32) (uint-makes 𝓤 H A W w32) k _ (refl, k-fits) $ fjoin ! $ move ! (1 ∷ []) $ fsplit ! $ move ! (1 ∷ []) $ fsplit ! $ move ! (1 ∷ []) $ fsplit ! $ move ! (1 ∷ []) $ fsplit ! $
       move ! (1 ∷ []) $ fsplit ! $ move ! (0 ∷ 6 ∷ []) $ fjoin ! $ move ! (2 ∷ 0 ∷ []) $ fjoin ! $ move ! (2 ∷ 0 ∷ []) $ fjoin ! $ move ! (2 ∷ 0 ∷ []) $ fjoin ! $ move ! (2 ∷ 0 ∷ []) $ fjoin ! $
-      owned ! u32 (Is u32) (uint-makes 𝓤 H A W w32) s _ (refl, s-fits) $ fjoin ! $ owned ! u32 (Is u32) (uint-makes 𝓤 H A W w32) w _ (refl, w-fits) $ fjoin ! $ keep ! (0 ∷ 2 ∷ []) $ done !
+      owned ! u32 (Is u32) (uint-makes 𝓤 H A W w32) m _ (refl, m-fits) $ fjoin ! $ owned ! u32 (Is u32) (uint-makes 𝓤 H A W w32) w _ (refl, w-fits) $ fjoin ! $ keep ! (0 ∷ 2 ∷ []) $ done !
 
   -- how the callee ends, with scratch of N places
   abbrev End : (N r : ℕ) (ms os es ds : List ℕ) → List Answer → Type 0
@@ -204,10 +204,10 @@ module _ {M : Type 1} (𝓤 : URA M) (H : Heap 𝓤) (A : Atoms 𝓤) (W : Given
   -- ---- the call of `fill`, with arrays of N places at l and l′
   module _ (N l l′ ν ν′ : ℕ) (δe δd : GName) where
     abbrev args : ℕ × (ℕ × (Nums × (Nums × (Nums × (Nums × (Nums × (ℕ × (Nums × (Nums × (Nums × (Nums × (RefT (List Answer) × U))))))))))))
-    args = (w, (s, (x₃, (x₄, (x₅, (x₆, (x₇, (k, (x₉, (x₁₀, (xl l δe (replicate N 0), (xl l′ δd (replicate N 0), (x₁₁, tt)))))))))))))
+    args = (w, (m, (x₃, (x₄, (x₅, (x₆, (x₇, (k, (x₉, (x₁₀, (xl l δe (replicate N 0), (xl l′ δd (replicate N 0), (x₁₁, tt)))))))))))))
 
     abbrev to : Fill 𝓤 H A mem run .Ghost
-    to = (((κ₀, (κ₁, (κ₂, (ν ∷ [], (ν′ ∷ [], (κ₃, tt)))))), (q₀, (q₁, (q₂, (fullShare, (fullShare, (q₃, tt)))))), tt, args, (vint w32 w ∷ [], (vint w32 s ∷ [], (sh x₃ ∷ [], (sh x₄ ∷ [], (sh x₅ ∷ [], (sh x₆ ∷ [], (sh x₇ ∷ [], (vint w32 k ∷ [], (sh x₉ ∷ [], (sh x₁₀ ∷ [], (sl l (replicate N 0) ∷ [], (sl l′ (replicate N 0) ∷ [], (rv ∷ [], tt)))))))))))))), tt)
+    to = (((κ₀, (κ₁, (κ₂, (ν ∷ [], (ν′ ∷ [], (κ₃, tt)))))), (q₀, (q₁, (q₂, (fullShare, (fullShare, (q₃, tt)))))), tt, args, (vint w32 w ∷ [], (vint w32 m ∷ [], (sh x₃ ∷ [], (sh x₄ ∷ [], (sh x₅ ∷ [], (sh x₆ ∷ [], (sh x₇ ∷ [], (vint w32 k ∷ [], (sh x₉ ∷ [], (sh x₁₀ ∷ [], (sl l (replicate N 0) ∷ [], (sl l′ (replicate N 0) ∷ [], (rv ∷ [], tt)))))))))))))), tt)
 
     abbrev E′ : Fml
     E′ = MutSlice (named 3) (ν ∷ []) u32 .own (xl l δe (replicate N 0)) (sl l (replicate N 0) ∷ [])
@@ -216,7 +216,7 @@ module _ {M : Type 1} (𝓤 : URA M) (H : Heap 𝓤) (A : Atoms 𝓤) (W : Given
     D′ = MutSlice (named 4) (ν′ ∷ []) u32 .own (xl l′ δd (replicate N 0)) (sl l′ (replicate N 0) ∷ [])
 
     abbrev Passed : Fml
-    Passed = fsep (u32 .own w (vint w32 w ∷ [])) (fsep (u32 .own s (vint w32 s ∷ [])) (fsep (Own32 x₃) (fsep (Own64 x₄) (fsep (Own32 x₅) (fsep (Own32 x₆) (fsep (Own64 x₇)
+    Passed = fsep (u32 .own w (vint w32 w ∷ [])) (fsep (u32 .own m (vint w32 m ∷ [])) (fsep (Own32 x₃) (fsep (Own64 x₄) (fsep (Own32 x₅) (fsep (Own32 x₆) (fsep (Own64 x₇)
         (fsep (u32 .own k (vint w32 k ∷ [])) (fsep Marks (fsep Outcomes (fsep E′ (fsep D′ (fsep Records ftrue))))))))))))
 
     abbrev Tokens : SProp 𝓤
@@ -240,7 +240,7 @@ module _ {M : Type 1} (𝓤 : URA M) (H : Heap 𝓤) (A : Atoms 𝓤) (W : Given
         use1 W (‵ (Own32 x₆) ⊛ ‵ (Own32 x₆)) (shr-slice-copy 𝓤 H A W (named 0) κ₀ u32 .twice x₆ (sh x₆ ∷ [])) $ split ! $ move ! (2 ∷ []) $ fsplit ! $
         use1 W (‵ (Own64 x₇) ⊛ ‵ (Own64 x₇)) (shr-slice-copy 𝓤 H A W (named 0) κ₀ u64 .twice x₇ (sh x₇ ∷ [])) $ split ! $ move ! (0 ∷ 2 ∷ []) $ fjoin ! $ move ! (2 ∷ 0 ∷ []) $ fjoin ! $ move ! (3 ∷ 0 ∷ []) $ fjoin ! $ move ! (4 ∷ 0 ∷ []) $
         fjoin ! $ move ! (5 ∷ 0 ∷ []) $ fjoin ! $ move ! (1 ∷ 6 ∷ []) $ fjoin ! $ move ! (2 ∷ 0 ∷ []) $ fjoin ! $ move ! (2 ∷ 0 ∷ []) $ fjoin ! $ move ! (2 ∷ 0 ∷ []) $ fjoin ! $ move ! (2 ∷ 0 ∷ []) $ fjoin ! $
-        owned ! u32 (Is u32) (uint-makes 𝓤 H A W w32) s _ (refl, s-fits) $ fjoin ! $ owned ! u32 (Is u32) (uint-makes 𝓤 H A W w32) w _ (refl, w-fits) $ fjoin ! $ nothing ! $ move ! (3 ∷ 0 ∷ []) $ join ! $ move ! (3 ∷ 0 ∷ []) $ join ! $
+        owned ! u32 (Is u32) (uint-makes 𝓤 H A W w32) m _ (refl, m-fits) $ fjoin ! $ owned ! u32 (Is u32) (uint-makes 𝓤 H A W w32) w _ (refl, w-fits) $ fjoin ! $ nothing ! $ move ! (3 ∷ 0 ∷ []) $ join ! $ move ! (3 ∷ 0 ∷ []) $ join ! $
         move ! (3 ∷ 0 ∷ []) $ join ! $ move ! (3 ∷ 0 ∷ []) $ join ! $ move ! (3 ∷ 0 ∷ []) $ join ! $ move ! (3 ∷ 0 ∷ []) $ join ! $ use2 W (raw (Fill 𝓤 H A mem run .pre to)) (asked scratch) $ frame ! $ done !
 
   module _ (𝓣 : Tables 𝓤 H) (known : Triple 𝓤 (𝓣 .C #batch·fill) (Fill 𝓤 H A mem run)) (l₀ l₁ l₂ l₃ l₄ l₅ l₆ l₇ l₈ l₉ l₁₀ l₁₁ l₁₂ l₁₃ l₁₄ l₁₅ l₁₆ l₁₇ l₁₈ l₁₉ l₂₀ l₂₁ l₂₂ l₂₃ l₂₄ l₂₅ l₂₆ l₂₇ l₂₈ l₂₉ l₃₀ l₃₁ l₃₂ l₃₃ l₃₄ l₃₅ l₃₆ : ℕ) where
@@ -255,7 +255,7 @@ module _ {M : Type 1} (𝓤 : URA M) (H : Heap 𝓤) (A : Atoms 𝓤) (W : Given
 
     abbrev At : Bool → List (Item 𝓤)
     At small = ‵ (fat fullShare tyBool l₁₆ 0 (vbool small)) ∷ ‵ Marks ∷ ‵ (flft κ₁ q₁) ∷ ‵ Outcomes ∷ ‵ (flft κ₂ q₂) ∷ ‵ Records ∷ ‵ (flft κ₃ q₃) ∷ ‵ Shared ∷ ‵ (flft κ₀ q₀)
-        ∷ ‵ (fat fullShare num32 l₁ 0 (vint w32 w)) ∷ ‵ (fat fullShare num32 l₂ 0 (vint w32 s)) ∷ ‵ (fat fullShare (ty 3) l₃ 0 (sh x₃)) ∷ ‵ (fat fullShare (ty 4) l₄ 0 (sh x₄)) ∷ ‵ (fat fullShare (ty 5) l₅ 0 (sh x₅)) ∷ ‵ (fat fullShare (ty 6) l₆ 0 (sh x₆)) ∷ ‵ (fat fullShare (ty 7) l₇ 0 (sh x₇))
+        ∷ ‵ (fat fullShare num32 l₁ 0 (vint w32 w)) ∷ ‵ (fat fullShare num32 l₂ 0 (vint w32 m)) ∷ ‵ (fat fullShare (ty 3) l₃ 0 (sh x₃)) ∷ ‵ (fat fullShare (ty 4) l₄ 0 (sh x₄)) ∷ ‵ (fat fullShare (ty 5) l₅ 0 (sh x₅)) ∷ ‵ (fat fullShare (ty 6) l₆ 0 (sh x₆)) ∷ ‵ (fat fullShare (ty 7) l₇ 0 (sh x₇))
         ∷ ‵ (fat fullShare num32 l₈ 0 (vint w32 k)) ∷ ‵ (fat fullShare (ty 9) l₉ 0 (sh x₉)) ∷ ‵ (fat fullShare (ty 10) l₁₀ 0 (sh x₁₀)) ∷ ‵ (fat fullShare (ty 11) l₁₁ 0 rv) ∷ ‵ (froom num32 l₀ 0)
         ∷ ‵ (froom (ty 12) l₁₂ 0) ∷ ‵ (froom (ty 13) l₁₃ 0) ∷ ‵ (froom (ty 14) l₁₄ 0) ∷ ‵ (froom (ty 15) l₁₅ 0) ∷ ‵ (froom (ty 17) l₁₇ 0) ∷ ‵ (froom (ty 18) l₁₈ 0) ∷ ‵ (froom (ty 19) l₁₉ 0) ∷ ‵ (froom (ty 20) l₂₀ 0) ∷ ‵ (froom (ty 21) l₂₁ 0) ∷ ‵ (froom (ty 22) l₂₂ 0) ∷ ‵ (froom (ty 23) l₂₃ 0) ∷ ‵ (froom (ty 24) l₂₄ 0) ∷ ‵ (froom (ty 25) l₂₅ 0) ∷ ‵ (froom (ty 26) l₂₆ 0) ∷ ‵ (froom (ty 27) l₂₇ 0) ∷ ‵ (froom (ty 28) l₂₈ 0) ∷ ‵ (froom (ty 29) l₂₉ 0) ∷ ‵ (froom (ty 30) l₃₀ 0) ∷ ‵ (froom (ty 31) l₃₁ 0) ∷ ‵ (froom (ty 32) l₃₂ 0) ∷ ‵ (froom (ty 33) l₃₃ 0) ∷ ‵ (froom (ty 34) l₃₄ 0) ∷ ‵ (froom (ty 35) l₃₅ 0) ∷ ‵ (froom (ty 36) l₃₆ 0) ∷ ‵ (fdies (num32) l₀) ∷ ‵ (fdies (num32) l₁) ∷ ‵ (fdies (num32) l₂) ∷ ‵ (fdies (ty 3) l₃) ∷ ‵ (fdies (ty 4) l₄) ∷ ‵ (fdies (ty 5) l₅) ∷ ‵ (fdies (ty 6) l₆) ∷ ‵ (fdies (ty 7) l₇) ∷ ‵ (fdies (num32) l₈) ∷ ‵ (fdies (ty 9) l₉) ∷ ‵ (fdies (ty 10) l₁₀) ∷ ‵ (fdies (ty 11) l₁₁) ∷ ‵ (fdies (ty 12) l₁₂) ∷ ‵ (fdies (ty 13) l₁₃) ∷ ‵ (fdies (ty 14) l₁₄) ∷ ‵ (fdies (ty 15) l₁₅) ∷ ‵ (fdies (tyBool) l₁₆) ∷ ‵ (fdies (ty 17) l₁₇) ∷ ‵ (fdies (ty 18) l₁₈) ∷ ‵ (fdies (ty 19) l₁₉) ∷ ‵ (fdies (ty 20) l₂₀) ∷ ‵ (fdies (ty 21) l₂₁) ∷ ‵ (fdies (ty 22) l₂₂) ∷ ‵ (fdies (ty 23) l₂₃) ∷ ‵ (fdies (ty 24) l₂₄) ∷ ‵ (fdies (ty 25) l₂₅) ∷ ‵ (fdies (ty 26) l₂₆) ∷ ‵ (fdies (ty 27) l₂₇) ∷ ‵ (fdies (ty 28) l₂₈) ∷ ‵ (fdies (ty 29) l₂₉) ∷ ‵ (fdies (ty 30) l₃₀) ∷ ‵ (fdies (ty 31) l₃₁) ∷ ‵ (fdies (ty 32) l₃₂) ∷ ‵ (fdies (ty 33) l₃₃) ∷ ‵ (fdies (ty 34) l₃₄) ∷ ‵ (fdies (ty 35) l₃₅) ∷ ‵ (fdies (ty 36) l₃₆) ∷ []
 
@@ -374,7 +374,7 @@ module _ {M : Type 1} (𝓤 : URA M) (H : Heap 𝓤) (A : Atoms 𝓤) (W : Given
       qed W ((‵ (flft κ₀ q₀) ⊛ (‵ (flft κ₁ q₁) ⊛ (‵ (flft κ₂ q₂) ⊛ (‵ (flft κ₃ q₃) ⊛ ‵ ftrue)))) ∷ ‵ (owns (u32 ∷ u32 ∷ ShrSlice (named 0) κ₀ u32 ∷ ShrSlice (named 0) κ₀ u64 ∷ ShrSlice (named 0) κ₀ u32 ∷ ShrSlice (named 0) κ₀ u32 ∷ ShrSlice (named 0) κ₀ u64 ∷ u32 ∷ MutSlice (named 1) κ₁ u64 ∷ MutSlice (named 2) κ₂ u32 ∷ MutSlice (named 3) κ₃ R ∷ []) a vals) ∷ []) ∵
       enter ! (𝓣 .C) (𝓣 .Λ) code.function flats _ $
       alloc1 ! (λ l₀. alloc1 ! (λ l₁. alloc1 ! (λ l₂. alloc1 ! (λ l₃. alloc1 ! (λ l₄. alloc1 ! (λ l₅. alloc1 ! (λ l₆. alloc1 ! (λ l₇. alloc1 ! (λ l₈. alloc1 ! (λ l₉. alloc1 ! (λ l₁₀. alloc1 ! (λ l₁₁. alloc1 ! (λ l₁₂. alloc1 ! (λ l₁₃. alloc1 ! (λ l₁₄. alloc1 ! (λ l₁₅. alloc1 ! (λ l₁₆. alloc1 ! (λ l₁₇. alloc1 ! (λ l₁₈. alloc1 ! (λ l₁₉. alloc1 ! (λ l₂₀. alloc1 ! (λ l₂₁. alloc1 ! (λ l₂₂. alloc1 ! (λ l₂₃. alloc1 ! (λ l₂₄. alloc1 ! (λ l₂₅. alloc1 ! (λ l₂₆. alloc1 ! (λ l₂₇. alloc1 ! (λ l₂₈. alloc1 ! (λ l₂₉. alloc1 ! (λ l₃₀. alloc1 ! (λ l₃₁. alloc1 ! (λ l₃₂. alloc1 ! (λ l₃₃. alloc1 ! (λ l₃₄. alloc1 ! (λ l₃₅. alloc1 ! (λ l₃₆. alloc0 ! $ params1 ! $
-      pass1 ! (init ! 70 refl (tt, record { fits = w-fits })) $ pass1 ! (init ! 68 refl (tt, record { fits = s-fits })) $ pass1 ! (init ! 66 refl (tt, (tt, (record { fits = r₃ .0 }, tt)))) $
+      pass1 ! (init ! 70 refl (tt, record { fits = w-fits })) $ pass1 ! (init ! 68 refl (tt, record { fits = m-fits })) $ pass1 ! (init ! 66 refl (tt, (tt, (record { fits = r₃ .0 }, tt)))) $
       pass1 ! (init ! 64 refl (tt, (tt, (record { fits = r₄ .0 }, tt)))) $ pass1 ! (init ! 62 refl (tt, (tt, (record { fits = r₅ .0 }, tt)))) $ pass1 ! (init ! 60 refl (tt, (tt, (record { fits = r₆ .0 }, tt)))) $
       pass1 ! (init ! 58 refl (tt, (tt, (record { fits = r₇ .0 }, tt)))) $ pass1 ! (init ! 56 refl (tt, record { fits = k-fits })) $ pass1 ! (init ! 54 refl (tt, (tt, (record { fits = room₉ .0 }, tt)))) $
       pass1 ! (init ! 52 refl (tt, (tt, (record { fits = room₁₀ .0 }, tt)))) $ pass1 ! (init ! 50 refl (tt, (tt, (record { fits = room .0 }, tt)))) $ pass0 ! $
