@@ -6,22 +6,47 @@ ghost use lib.ListN.{length};
 ghost use Rattle.theory.specs.Lists.{over, padded};
 ghost use Rattle.scope.specs.Codes as spec;
 ghost use Rattle.scope.specs.Codes.{codeOf};
-ghost use Rattle.codes.specs.Distances.{distanceFrom};
+ghost use Rattle.codes.specs.Distances.{distanceFrom, limited};
 ghost use Rattle.codes.specs.Marks.{isMarked, withMark};
 
-// How many bits of entry i's code and the query differ.
-pub fn distance(codes: &[u64], i: usize, w: usize, query: &[u64]) -> u32
-    requires { ⌜ (w ≤ 4) × (i * w + w ≤ length (now codes)) × (w ≤ length (now query)) ⌝ }
-    ensures { λ r. ⌜ r ≡ distanceFrom w (now (codes .entry)) (now (query .entry)) i ⌝ }
+// A distance up to a limit: exact where it is at most that, and otherwise only known to be over.
+pub enum Limited {
+    Exact(u32),
+    Over,
+}
+
+// How many bits of entry i's code and the query differ in the first words.
+fn differing(codes: &[u64], i: usize, w: usize, query: &[u64], words: usize) -> u32
+    requires { ⌜ (words ≤ w) × (w ≤ 4) × (i * w + w ≤ length (now codes)) × (w ≤ length (now query)) ⌝ }
+    ensures { λ r. ⌜ r ≡ spec.distance (64 * words) (codeOf w (now (codes .entry)) i) (now (query .entry)) ⌝ }
 {
     let at = i * w;
     let mut r: u32 = 0;
     let mut k = 0;
-    while k < w {
+    while k < words {
         r += u64::count_ones(codes[at + k] ^ query[k]);
         k += 1;
     }
     r
+}
+
+// How many bits of entry i's code and the query differ, up to a limit. First so many words are looked at, if there are more, as are over the limit with 24 bits each: words of
+// unrelated codes differ in 32 bits, hardly ever in fewer than 24.
+pub fn distance(codes: &[u64], i: usize, w: usize, query: &[u64], limit: u32) -> Limited
+    requires { ⌜ (w ≤ 4) × (i * w + w ≤ length (now codes)) × (w ≤ length (now query)) ⌝ }
+    ensures { λ r. ⌜ r ≡ limited limit (distanceFrom w (now (codes .entry)) (now (query .entry)) i) ⌝ }
+{
+    if limit as usize + 24 < 24 * w {
+        let few = limit as usize / 24 + 1;
+        if limit < differing(codes, i, w, query, few) {
+            return Limited::Over;
+        }
+    }
+    let d = differing(codes, i, w, query, w);
+    if limit < d {
+        return Limited::Over;
+    }
+    Limited::Exact(d)
 }
 
 // The len bits of a code from bit `from` on, as a number. They may cross from one word into the next.

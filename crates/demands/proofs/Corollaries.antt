@@ -4,19 +4,18 @@ use mathlib.Core.Path.{_≡_, refl, sym, ap, _∙_}
 use mathlib.Core.Logic.{⊎-elim}
 use mathlib.Core.Bool.{_&&_, cond}
 use mathlib.Core.List.{List, [], _∷_}
-use Prim.Native.Nat.{ℕ, _+_, _*_, _≤_, _<_, zero-le}
+use Prim.Native.Nat.{ℕ, _+_, _*_, _<_, zero-le}
 use native.Mathlib.Nat.{eq-or-lt-of-le}
 use native.Mathlib.Numerals.{add-one}
 use native.Mathlib.Omega.{arith}
 use lib.Dec.{ltb, leb}
 use lib.ListN.{length, getD, take}
-use lib.Seq.{take-append-le}
 use borrow.Author.Tests.{lt-ltb, lt-leb}
-use Rattle.theory.specs.Lists.{sum, ranked}
+use Rattle.theory.specs.Lists.{sum}
 use Rattle.theory.specs.Binomials.{binomial, L}
 use Rattle.theory.proofs.Sums.{sum-at}
 use Rattle.theory.proofs.Counting.{count-less}
-use Rattle.theory.proofs.Order.{ranked-front}
+use Rattle.theory.proofs.Order.{first-near}
 use Rattle.theory.proofs.Placing.{all, length-ranked}
 use Rattle.scope.specs.declared.Report.{Report}
 use Rattle.scope.specs.declared.Found.the-variants.{Listed}
@@ -109,6 +108,4 @@ module _ (c : Asked) (k : ℕ) (such : NearestCall c k) (some : 0 < K (c .questi
       let x = ask .index in
       let D = kthDistance ask (K x k) in
       let (_, enough, top) = kth-smallest ask (K x k) some (omega arith) in
-      let (t, e) = ranked-front (distanceOf ask) all (n x) (D + 1) (q (x .shape) + 1) (omega arith) in
-      let long : K x k ≤ length (ranked (distanceOf ask) all (n x) (D + 1)) = rw (length-ranked, add-one D) enough in
-      ap (take (K x k)) e ∙ take-append-le (K x k) (ranked (distanceOf ask) all (n x) (D + 1)) t long
+      first-near (distanceOf ask) all (n x) (D + 1) (q (x .shape) + 1) (K x k) (omega arith) (rw (length-ranked, add-one D) enough)

@@ -31,7 +31,7 @@ use Rattle.demands.specs.Verdicts.{First, Next, Matched, Undecided, Says
 use Rattle.demands.proofs.Sound.{none-bad, near-tested}
 use Rattle.demands.proofs.Trusting.{verdict-ready}
 
-no-nearer : (dist : ℕ → ℕ) (i j : ℕ) → Before dist i j → dist i ≤ dist j
+pub no-nearer : (dist : ℕ → ℕ) (i j : ℕ) → Before dist i j → dist i ≤ dist j
 no-nearer dist i j (inl l) = omega arith
 no-nearer dist i j (inr e) = omega arith
 

@@ -11,7 +11,7 @@ use lib.Seq.{getD-take, getD-drop}
 use lib.Bits.{differ, bitXor}
 use lib.Count.{ones}
 use Rattle.theory.specs.Lists.{sum}
-use Rattle.theory.proofs.Sums.{sum-cong, sum-split, sum-cuts, sum-zero, sum-le}
+use Rattle.theory.proofs.Sums.{sum-cong, sum-split, sum-cuts, sum-zero, sum-grows, sum-le}
 use Rattle.theory.proofs.Numbers.{number, number-cong, number-lt, number-append, number-digits, number-xor, differ-lt, differ-self, differ-sym}
 use Rattle.scope.specs.declared.Shape.{Shape}
 use Rattle.scope.specs.Shape.{q, listed, m, firstBit, len}
@@ -92,6 +92,11 @@ pub distance-le : (q : ℕ) (x y : List ℕ) → distance q x y ≤ q
 unfolding distance
 distance-le q x y =
     omega (arith, sum-le (λ j. differ (bit x j) (bit y j)) 1 q (λ j l. omega (arith, differ-lt (bit x j) (bit y j) (bit-lt x j) (bit-lt y j))))
+
+-- over fewer bits it is no larger
+pub distance-mono : (a b : ℕ) (x y : List ℕ) → a ≤ b → distance a x y ≤ distance b x y
+unfolding distance
+distance-mono a b x y h = sum-grows (λ j. differ (bit x j) (bit y j)) a b h
 
 pub distance-self : (q : ℕ) (x : List ℕ) → distance q x x ≡ 0
 unfolding distance

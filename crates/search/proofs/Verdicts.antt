@@ -30,6 +30,7 @@ use Rattle.scope.proofs.Codes.{distance-le}
 use Rattle.scope.proofs.Shapes.{facts}
 use Rattle.scope.proofs.Stars.{Foremost, Runner, Told, told}
 use Rattle.shapes.specs.declared.Early.the-variants.{Fine, Refused}
+use Rattle.walk.specs.declared.Aim.the-variants as aim
 use Rattle.walk.specs.declared.Met.the-variants as walk
 use Rattle.walk.specs.declared.Rivals.{Rivals}
 use Rattle.walk.specs.declared.Walk.{Walk}
@@ -82,7 +83,7 @@ module _ (star dist : ℕ → ℕ) (test : ℕ → Bool) (few : (i : ℕ) → te
 
 -- ---- after the walk
 
-module _ (ask : Question) (w : Walk) (marks tally : List ℕ) (a : Asked ask) (e : Ended ask (verdictSteps ask) w marks tally) where
+module _ (ask : Question) (w : Walk) (marks tally : List ℕ) (a : Asked ask) (e : Ended ask aim.TwoStars (verdictSteps ask) w marks tally) where
   abbrev seen : ℕ → Bool
   seen i = tested ask (verdictSteps ask) i
 
@@ -93,23 +94,23 @@ module _ (ask : Question) (w : Walk) (marks tally : List ℕ) (a : Asked ask) (e
   seen-is i =
       ⊎-elim (λ (h : seen i ≡ true). rw (lt-ltb i (n (ask .index)) (entry i h))) (λ (h : seen i ≡ false). rw h (and-false (ltb i (n (ask .index))))) (either (seen i))
 
-  pub judgeable : Judgeable (ask .index .stars) (w .rivals)
+  pub judgeable : Judgeable (ask .index .stars) (w .seen .rivals)
   judgeable =
       record {
-        order = e .rivals .order .0;
-        entry = λ ne. ⊎-elim (λ x. absurd (ne x)) (λ v. let few = a .lent .few in omega (arith, v .2, entry (v .0) (v .1))) (e .rivals .another);
+        order = e .left .order .0;
+        entry = λ ne. ⊎-elim (λ x. absurd (ne x)) (λ v. let few = a .lent .few in omega (arith, v .2, entry (v .0) (v .1))) (e .left .another);
       }
 
-  pub rivals-stand : Stand (starOf ask) (distanceOf ask) (w .rivals) (nearestRivals ask)
+  pub rivals-stand : Stand (starOf ask) (distanceOf ask) (w .seen .rivals) (nearestRivals ask)
   unfolding nearestRivals
   rivals-stand =
       let sh = ask .index .shape in
       stand (starOf ask) (distanceOf ask) seen (λ i h. let few = a .lent .few in omega (arith, entry i h))
       (λ i _. let f = facts sh (a .lent .known) .few-words in omega (arith, distance-le (q sh) (codeOf (sh .w) (ask .index .codes) i) (ask .query)))
-      (w .rivals) (e .rivals) _
+      (w .seen .rivals) (e .left) _
       (subst (λ (t : ℕ → Bool). Told (starOf ask) (distanceOf ask) t (nearestRivals ask)) (λ k j. seen-is j k) (told ask seen))
 
-module _ (ask : Question) (t g : ℕ) (w : Walk) (marks tally : List ℕ) (h : Walked ask (verdictSteps ask) w marks tally) where
+module _ (ask : Question) (t g : ℕ) (w : Walk) (marks tally : List ℕ) (h : Walked ask aim.TwoStars (verdictSteps ask) w marks tally) where
   abbrev given : Judged
   given = judged.Given (verdictReport ask t g (verdictSteps ask) (nearestRivals ask))
 
@@ -118,12 +119,12 @@ module _ (ask : Question) (t g : ℕ) (w : Walk) (marks tally : List ℕ) (h : W
   found-refused f e = sym (walk-refused judged.Refused given (met (ask .index) (opened ask (verdictSteps ask))) f (sym (h .met) ∙ e))
 
   pub found-given : w .met ≡ walk.Clear → (v : Verdict) → v ≡ verdictOf (starOf ask) (distanceOf ask) t g (nearestRivals ask)
-      → judged.Given (record { verdict = v; opened = w .opened; tested = w .tested }) ≡ verdictFound ask t g
+      → judged.Given (record { verdict = v; opened = w .opened; tested = w .seen .tested }) ≡ verdictFound ask t g
   unfolding verdictFound metIn verdictReport
   found-given e v is =
       let a = h .clear e in
       let rows = met (ask .index) (opened ask (verdictSteps ask)) in
-      let same : record { verdict = v; opened = w .opened; tested = w .tested } ≡ verdictReport ask t g (verdictSteps ask) (nearestRivals ask) =
+      let same : record { verdict = v; opened = w .opened; tested = w .seen .tested } ≡ verdictReport ask t g (verdictSteps ask) (nearestRivals ask) =
       λ i. record { verdict = is i; opened = a .opened i; tested = a .tested i } in
       ap judged.Given same ∙ sym (unless-none rows judged.Refused given (walk-clear rows (sym (h .met) ∙ e)))
 

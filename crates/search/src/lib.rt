@@ -108,7 +108,9 @@ fn list_nearest(
         return Found::Refused(refusal);
     }
     let n = stars.len();
-    let limit = 64 * shape.w;
+    let seen = w.seen;
+    let limit = seen.limit;
+    let end = limit as usize + 1;
     ranking::rank(
         codes,
         shape.w as usize,
@@ -117,12 +119,12 @@ fn list_nearest(
         limit,
         places,
         marks,
-        tally,
+        &mut tally[..end],
         entries,
         distances,
     );
     let opened = w.opened;
-    let tested = w.tested;
+    let tested = seen.tested;
     let answers = smaller(places, tested.0 as usize) as u32;
     Found::Listed(Report {
         answers,
@@ -161,6 +163,7 @@ fn list_within(
         wipe(places, marks, entries, distances);
         return Found::Refused(refusal);
     }
+    let end = r as usize + 1;
     ranking::rank(
         codes,
         shape.w as usize,
@@ -169,16 +172,17 @@ fn list_within(
         r,
         places,
         marks,
-        tally,
+        &mut tally[..end],
         entries,
         distances,
     );
-    let answers = w.near;
+    let seen = w.seen;
+    let answers = seen.near;
     if shorter < answers as usize {
         return Found::Refused(Refusal::TooMany(answers));
     }
     let opened = w.opened;
-    let tested = w.tested;
+    let tested = seen.tested;
     Found::Listed(Report {
         answers,
         opened,
@@ -319,10 +323,11 @@ fn give_verdict(
     if let Met::Refused(refusal) = met {
         return Judged::Refused(refusal);
     }
-    let rivals = w.rivals;
+    let seen = w.seen;
+    let rivals = seen.rivals;
     let verdict = judge(stars, rivals, t, g);
     let opened = w.opened;
-    let tested = w.tested;
+    let tested = seen.tested;
     Judged::Given(VerdictReport {
         verdict,
         opened,

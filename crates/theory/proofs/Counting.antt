@@ -12,8 +12,8 @@ use lib.ListN.{length, getD, length-append, List·getD-append}
 use lib.Seq.{getD-at}
 use borrow.Author.Tests.{eq-eqb, ne-eqb, lt-ltb, le-ltb}
 use Rattle.theory.specs.Lists.{sum, firstFrom, cat, upto, count, any, has}
-use Rattle.theory.proofs.Tests.{lt-or-le, eq-or-ne, both-ways, ltb-suc, oneIf, oneIf-le}
-use Rattle.theory.proofs.Sums.{sum-cong}
+use Rattle.theory.proofs.Tests.{either, lt-or-le, eq-or-ne, both-ways, ltb-suc, oneIf, oneIf-le}
+use Rattle.theory.proofs.Sums.{sum-cong, sum-mono}
 use Rattle.theory.proofs.Lists.{first-before, cat-suc, length-cat, cat-cong, any-one, any-none, any-cat-yes, any-cat-at, has-append, has-one, has-none}
 
 module _ {A : Type 0} where
@@ -69,6 +69,14 @@ upto-cong p q n h = cat-cong _ _ n (λ i l. ap (λ (b : Bool). only b i) (h i l)
 
 pub count-cong : (p q : ℕ → Bool) (n : ℕ) → ((i : ℕ) → i < n → p i ≡ q i) → count p n ≡ count q n
 count-cong p q n h = ap length (upto-cong p q n h)
+
+-- a test that passes wherever another does passes as often, or more
+pub count-imp : (p q : ℕ → Bool) (n : ℕ) → ((i : ℕ) → p i ≡ true → q i ≡ true) → count p n ≤ count q n
+count-imp p q n h = omega (arith, count-sum p n, count-sum q n, sum-mono _ _ n (λ i _. go i (either (p i))))
+  where
+    go : (i : ℕ) → (p i ≡ true) ⊎ (p i ≡ false) → oneIf (p i) ≤ oneIf (q i)
+    go i (inl e) = rw (e, h i e) (omega arith)
+    go i (inr e) = rw e (omega arith)
 
 -- two tests that differ at most at k, where the first fails
 pub count-new : (t u : ℕ → Bool) (k n : ℕ) → k < n → t k ≡ false → ((i : ℕ) → (i ≡ k → ⊥) → u i ≡ t i) → count u n ≡ count t n + oneIf (u k)

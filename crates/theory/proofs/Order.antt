@@ -89,6 +89,12 @@ module _ (key : ℕ → ℕ) (keep : ℕ → Bool) (n : ℕ) where
       (λ d. sorted-imp _<_ (Before key) (λ i. key i ≡ d) (upto (λ i. eqb (key i) d && keep i) n) (λ x y a b l. inr (a ∙ sym b, l)) (keyed d)
       (upto-ascends (λ i. eqb (key i) d && keep i) n))
 
+  pub ranked-below : (q : ℕ) → All (λ i. key i < q) (ranked key keep n q)
+  unfolding ranked
+  ranked-below q =
+      cat-all (λ i. key i < q) (λ d. upto (λ i. eqb (key i) d && keep i) n) q
+      (λ d l. all-imp (λ i. key i ≡ d) (λ i. key i < q) (upto (λ i. eqb (key i) d && keep i) n) (λ i e. omega arith) (keyed d))
+
   -- each that is kept and near enough, once; and no other
   pub ranked-once : (i q : ℕ) → times (eqb i) (ranked key keep n q) ≡ oneIf (ltb i n && (ltb (key i) q && keep i))
   unfolding ranked
@@ -115,16 +121,18 @@ pub ranked-front : (key : ℕ → ℕ) (keep : ℕ → Bool) (n R q : ℕ) → R
 unfolding ranked
 ranked-front key keep n R q h = cat-front (λ d. upto (λ i. eqb (key i) d && keep i) n) R q h
 
--- where two sets agree on the entries with keys below R, and K of those are in them, their first K are the same
+-- where K entries have keys below R, these alone tell the first K
+pub first-near : (key : ℕ → ℕ) (keep : ℕ → Bool) (n R q K : ℕ) → R ≤ q → K ≤ length (ranked key keep n R) → take K (ranked key keep n q) ≡ take K (ranked key keep n R)
+first-near key keep n R q K h room =
+    let (t, e) = ranked-front key keep n R q h in
+    ap (take K) e ∙ take-append-le K (ranked key keep n R) t room
+
+-- where two sets agree on these, their first K are the same
 pub first-ranked : (key : ℕ → ℕ) (keep kept : ℕ → Bool) (n R q K : ℕ) → R ≤ q → ((i : ℕ) → i < n → key i < R → keep i ≡ kept i)
     → K ≤ length (ranked key kept n R) → take K (ranked key keep n q) ≡ take K (ranked key kept n q)
-first-ranked key keep kept n R q K h agree hK = near keep (ranked-cong key keep kept n R agree) ∙ sym (near kept refl)
-  where
-    near : (k : ℕ → Bool) → ranked key k n R ≡ ranked key kept n R → take K (ranked key k n q) ≡ take K (ranked key kept n R)
-    near k same =
-        let (t, e) = ranked-front key k n R q h in
-        let room : K ≤ length (ranked key k n R) = rw same hK in
-        ap (take K) e ∙ take-append-le K (ranked key k n R) t room ∙ ap (take K) same
+first-ranked key keep kept n R q K h agree room =
+    let same = ranked-cong key keep kept n R agree in
+    first-near key keep n R q K h (rw same room) ∙ ap (take K) same ∙ sym (first-near key kept n R q K h room)
 
 -- ---- the order and the members tell the list
 

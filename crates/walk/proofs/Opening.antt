@@ -21,6 +21,7 @@ use Rattle.scope.specs.Walk.{Question, distanceOf, starOf}
 use Rattle.scope.specs.Refusals.{Rows, met, unless, markWords}
 use Rattle.scope.proofs.Rows.{oneFits, unless-append, unless-none, met-any, all-clear, one-refuses}
 use Rattle.codes.specs.Marks.{isMarked}
+use Rattle.walk.specs.declared.Aim.{Aim}
 use Rattle.walk.specs.declared.Met.the-variants.{Clear, Refused}
 use Rattle.walk.specs.declared.Walk.{Walk}
 use Rattle.walk.specs.Steps.{lists, around, metIn, Counted, Tests, Opening}
@@ -72,8 +73,9 @@ module _ (x : Index) where
 
 -- ---- buckets, one after the other
 
-module _ (ask : Question) (w : Walk) (marks : List ℕ) where
-  pub opening-none : (tally : List ℕ) → w .met ≡ Clear → Counted (starOf ask) (distanceOf ask) (markWords (n (ask .index))) w marks tally → Opening ask [] w w marks marks tally
+module _ (ask : Question) (goal : Aim) (w : Walk) (marks : List ℕ) where
+  pub opening-none : (tally : List ℕ) → w .met ≡ Clear → Counted goal (starOf ask) (distanceOf ask) (markWords (n (ask .index))) (w .seen) marks tally
+      → Opening ask goal [] w w marks marks tally
   opening-none tally c h =
       record {
         met = c ∙ sym (met-none (ask .index));
@@ -82,20 +84,21 @@ module _ (ask : Question) (w : Walk) (marks : List ℕ) where
 
   -- one bucket: it is bad, or its entries are tested
   pub opening-refused : (z v : ℕ) (r : Walk) (marks′ tally′ : List ℕ) → bad (ask .index) z v ≡ true → r .met ≡ Refused (BadBucket z v)
-      → Opening ask ((z, v) ∷ []) w r marks marks′ tally′
+      → Opening ask goal ((z, v) ∷ []) w r marks marks′ tally′
   opening-refused z v r marks′ tally′ b e = record { met = e ∙ sym (rw (met-one, b)); clear = λ c. not-both (sym e ∙ c) }
 
-  pub opening-one : (z v : ℕ) (u r : Walk) (marks′ tally′ : List ℕ) → bad (ask .index) z v ≡ false → u .at ≡ w .at → u .opened .0 ≡ w .opened .0 + 1 → u .met ≡ Clear
-      → Tests (starOf ask) (distanceOf ask) (markWords (n (ask .index))) (λ i. has i (bucket (ask .index) z v)) u r marks marks′ tally′ → Opening ask ((z, v) ∷ []) w r marks marks′ tally′
-  opening-one z v u r marks′ tally′ b at opened c h =
+  pub opening-one : (z v : ℕ) (r : Walk) (marks′ tally′ : List ℕ) → bad (ask .index) z v ≡ false → r .at ≡ w .at → r .opened .0 ≡ w .opened .0 + 1 → r .met ≡ Clear
+      → Tests goal (starOf ask) (distanceOf ask) (markWords (n (ask .index))) (λ i. has i (bucket (ask .index) z v)) (r .seen) marks marks′ tally′
+      → Opening ask goal ((z, v) ∷ []) w r marks marks′ tally′
+  opening-one z v r marks′ tally′ b at opened c h =
       record {
-        met = h .met ∙ c ∙ sym (rw (met-one, b));
-        clear = λ _. record { at = h .at ∙ at; opened = rw (h .opened) opened; marked = λ i. rw any-one (h .marked i); counted = h .counted };
+        met = c ∙ sym (rw (met-one, b));
+        clear = λ _. record { at = at; opened = opened; marked = λ i. rw any-one (h .marked i); counted = h .counted };
       }
 
   -- the buckets l, and then k
-  pub opening-more : (l k : List (ℕ × ℕ)) (r o : Walk) (marks′ tally′ marks″ tally″ : List ℕ) → Opening ask l w r marks marks′ tally′ → r .met ≡ Clear
-      → Opening ask k r o marks′ marks″ tally″ → Opening ask (l ++ k) w o marks marks″ tally″
+  pub opening-more : (l k : List (ℕ × ℕ)) (r o : Walk) (marks′ tally′ marks″ tally″ : List ℕ) → Opening ask goal l w r marks marks′ tally′ → r .met ≡ Clear
+      → Opening ask goal k r o marks′ marks″ tally″ → Opening ask goal (l ++ k) w o marks marks″ tally″
   opening-more l k r o marks′ tally′ marks″ tally″ h c g =
       record {
         met = g .met ∙ sym (met-past (ask .index) l k (sym (h .met) ∙ c));
@@ -111,8 +114,8 @@ module _ (ask : Question) (w : Walk) (marks : List ℕ) where
       }
 
   -- what stands after a bad bucket is not opened
-  pub opening-bad : (l k : List (ℕ × ℕ)) (r : Walk) (marks′ tally′ : List ℕ) (f : Refusal) → Opening ask l w r marks marks′ tally′ → r .met ≡ Refused f
-      → Opening ask (l ++ k) w r marks marks′ tally′
+  pub opening-bad : (l k : List (ℕ × ℕ)) (r : Walk) (marks′ tally′ : List ℕ) (f : Refusal) → Opening ask goal l w r marks marks′ tally′ → r .met ≡ Refused f
+      → Opening ask goal (l ++ k) w r marks marks′ tally′
   opening-bad l k r marks′ tally′ f h c =
       record { met = c ∙ sym (met-stays (ask .index) l k f (sym (h .met) ∙ c)); clear = λ e. not-both (sym c ∙ e) }
 
@@ -126,10 +129,10 @@ module _ (z r sub : ℕ) where
   around-suc k = ap (map (λ e. (z, bitXor sub e))) (upto-suc (λ e. eqb (ones e) r) k) ∙ map-append _ (upto (λ e. eqb (ones e) r) k) _
 
   -- a bad bucket among those below k is the first bad of them all
-  pub around-bad : (ask : Question) (w o : Walk) (marks marks′ tally′ : List ℕ) (f : Refusal) (k m : ℕ) → k ≤ m
-      → Opening ask (around z r sub k) w o marks marks′ tally′ → o .met ≡ Refused f → Opening ask (around z r sub m) w o marks marks′ tally′
-  around-bad ask w o marks marks′ tally′ f k m l h e =
-      le-ind (λ (j : ℕ). Opening ask (around z r sub j) w o marks marks′ tally′) h (λ j _ g. rw around-suc (opening-bad ask w marks _ _ o marks′ tally′ f g e)) m l
+  pub around-bad : (ask : Question) (goal : Aim) (w o : Walk) (marks marks′ tally′ : List ℕ) (f : Refusal) (k m : ℕ) → k ≤ m
+      → Opening ask goal (around z r sub k) w o marks marks′ tally′ → o .met ≡ Refused f → Opening ask goal (around z r sub m) w o marks marks′ tally′
+  around-bad ask goal w o marks marks′ tally′ f k m l h e =
+      le-ind (λ (j : ℕ). Opening ask goal (around z r sub j) w o marks marks′ tally′) h (λ j _ g. rw around-suc (opening-bad ask goal w marks _ _ o marks′ tally′ f g e)) m l
 
 -- with every bit of a bucket's number under the mask: none up to the first number with r ones there, and one more up to each next one
 module _ (z under r sub buckets : ℕ) (all : (e : ℕ) → e < buckets → bitAnd e under ≡ e) where

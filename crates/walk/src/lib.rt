@@ -15,7 +15,9 @@ ghost use Rattle.scope.specs.Tables.{index};
 ghost use Rattle.scope.specs.Refusals.{markWords};
 ghost use Rattle.codes.specs.Distances.{distanceFrom};
 ghost use Rattle.walk.specs.Rivals.{Joins};
-ghost use Rattle.walk.specs.Steps.{Lent, Asked, asks, Counted, Tests, Opening, around, Start, Going, Stepped, Fresh, reached, enoughAfter, stepsTo, Walked};
+ghost use Rattle.walk.specs.Limits.{Countable, Counts};
+ghost use Rattle.walk.specs.Steps.{Lent, Asked, asks, Counted, Tests, Opening, around, Start, Going, Stepped, Fresh, Sensible, enoughAfter, stepsTo, Walked};
+use codes::Limited;
 use scope::Opened;
 use scope::Refusal;
 use scope::Shape;
@@ -145,59 +147,95 @@ impl Rivals {
     }
 }
 
-// When a walk has seen enough: never, or once so many tested entries are nearer than the number of steps, or such entries of two different stars.
+// What a walk is for: the k nearest entries of those within r, or the nearest of two different stars.
 pub enum Aim {
-    Never,
-    Count(u32),
+    Nearest(u32, u32),
     TwoStars,
 }
 
-// The state of the walk: how many steps were taken, the two counts, how many tested entries are nearer than the number of steps, the nearest and its runner-up.
-pub struct Walk {
-    pub at: u32,
-    pub opened: Opened,
+// More entries than a catalogue has: to list so many is to list all.
+const ALL: u32 = ENTRIES + 1;
+
+// What is known of the tested entries: how many they are, and the limit, the worst distance that can still be listed; by the aim, how many are within it, or the nearest and its
+// runner-up.
+pub struct Seen {
     pub tested: Tested,
+    pub limit: u32,
     pub near: u32,
     pub rivals: Rivals,
-    pub met: Met,
 }
 
-impl Walk {
-    // Tests entry i: the first time, it is marked and counted.
+impl Seen {
+    // One more is at distance d, within the limit, which then goes down as far as k stay within it. The tally has how many are at each distance.
+    fn count(self, k: u32, d: u32, tally: &mut [u32]) -> Seen
+        requires { ⌜ Countable k d self (now tally) ⌝ }
+        ensures { λ r. ⌜ Counts k d (now (tally .entry)) self (now (tally .exit)) r ⌝ }
+    {
+        let place = d as usize;
+        tally[place] = tally[place] + 1;
+        let tested = self.tested;
+        let rivals = self.rivals;
+        let mut near = self.near + 1;
+        let mut last = self.limit as usize;
+        let mut nearer = near - tally[last];
+        while k <= nearer {
+            near = nearer;
+            last -= 1;
+            nearer = near - tally[last];
+        }
+        Seen {
+            tested,
+            limit: last as u32,
+            near,
+            rivals,
+        }
+    }
+
+    // Tests entry i: the first time, it is marked and counted. Over the limit it changes nothing else.
     fn test(
         self,
         shape: Shape,
         stars: &[u32],
         codes: &[u64],
         query: &[u64],
+        aim: Aim,
         i: usize,
         marks: &mut [u64],
         tally: &mut [u32],
-    ) -> Walk
+    ) -> Seen
         requires { ⌜ (shape .w ≤ 4) × (i * shape .w + shape .w ≤ length (now codes)) × (length (now query) ≡ shape .w) ⌝ }
         requires { ⌜ (i < 64 * length (now marks)) × (length (now marks) ≤ 1024) × (i < length (now stars)) ⌝ }
-        requires { ⌜ Counted (λ (j : ℕ). getD (now stars) j 0) (distanceFrom (shape .w) (now codes) (now query)) (length (now marks)) self (now marks) (now tally) ⌝ }
-        ensures { λ r. ⌜ Tests (λ (j : ℕ). getD (now (stars .entry)) j 0) (distanceFrom (shape .w) (now (codes .entry)) (now (query .entry))) (length (now (marks .entry))) (λ (j : ℕ). eqb j i) self r (now (marks .entry)) (now (marks .exit)) (now (tally .exit)) ⌝ }
+        requires { ⌜ Counted aim (λ (j : ℕ). getD (now stars) j 0) (distanceFrom (shape .w) (now codes) (now query)) (length (now marks)) self (now marks) (now tally) ⌝ }
+        ensures { λ r. ⌜ Tests aim (λ (j : ℕ). getD (now (stars .entry)) j 0) (distanceFrom (shape .w) (now (codes .entry)) (now (query .entry))) (length (now (marks .entry))) (λ (j : ℕ). eqb j i) r (now (marks .entry)) (now (marks .exit)) (now (tally .exit)) ⌝ }
     {
         if codes::marked(marks, i) {
             return self;
         }
         codes::mark(marks, i);
-        let d = codes::distance(codes, i, shape.w as usize, query);
-        let place = d as usize;
-        tally[place] = tally[place] + 1;
-        let opened = self.opened;
-        let tested = self.tested;
-        let met = self.met;
-        let best = self.rivals;
-        let rivals = best.join(stars, i, d);
-        Walk {
-            at: self.at,
-            opened,
-            tested: Tested(tested.0 + 1),
-            near: self.near + (d < self.at) as u32,
+        let found = codes::distance(codes, i, shape.w as usize, query, self.limit);
+        let before = self.tested;
+        let tested = Tested(before.0 + 1);
+        let rivals = self.rivals;
+        let seen = Seen {
+            tested,
+            limit: self.limit,
+            near: self.near,
             rivals,
-            met,
+        };
+        let Limited::Exact(d) = found else {
+            return seen;
+        };
+        match aim {
+            Aim::Nearest(k, _) => seen.count(k, d, tally),
+            Aim::TwoStars => {
+                let best = rivals.join(stars, i, d);
+                Seen {
+                    tested,
+                    limit: best.other / ENTRIES,
+                    near: self.near,
+                    rivals: best,
+                }
+            }
         }
     }
 
@@ -210,30 +248,41 @@ impl Walk {
         starts: &[u32],
         ids: &[u32],
         query: &[u64],
+        aim: Aim,
         z: usize,
         v: usize,
         marks: &mut [u64],
         tally: &mut [u32],
-    ) -> Walk
+    ) -> Seen
         requires { ⌜ Asked (asks shape (now stars) (now codes) (now starts) (now ids) (now query)) ⌝ }
         requires { ⌜ (z < m shape) × (v < size shape z) ⌝ }
         requires { ⌜ tables.bad (index shape (now stars) (now codes) (now starts) (now ids)) z v ≡ false ⌝ }
-        requires { ⌜ Counted (λ (j : ℕ). getD (now stars) j 0) (distanceFrom (shape .w) (now codes) (now query)) (markWords (length (now stars))) self (now marks) (now tally) ⌝ }
-        ensures { λ r. ⌜ Tests (λ (j : ℕ). getD (now (stars .entry)) j 0) (distanceFrom (shape .w) (now (codes .entry)) (now (query .entry))) (markWords (length (now (stars .entry)))) (λ (i : ℕ). has i (tables.bucket (index shape (now (stars .entry)) (now (codes .entry)) (now (starts .entry)) (now (ids .entry))) z v)) self r (now (marks .entry)) (now (marks .exit)) (now (tally .exit)) ⌝ }
+        requires { ⌜ Counted aim (λ (j : ℕ). getD (now stars) j 0) (distanceFrom (shape .w) (now codes) (now query)) (markWords (length (now stars))) self (now marks) (now tally) ⌝ }
+        ensures { λ r. ⌜ Tests aim (λ (j : ℕ). getD (now (stars .entry)) j 0) (distanceFrom (shape .w) (now (codes .entry)) (now (query .entry))) (markWords (length (now (stars .entry)))) (λ (i : ℕ). has i (tables.bucket (index shape (now (stars .entry)) (now (codes .entry)) (now (starts .entry)) (now (ids .entry))) z v)) r (now (marks .entry)) (now (marks .exit)) (now (tally .exit)) ⌝ }
     {
         let first = start(shape, starts, z, v);
         let end = start(shape, starts, z, v + 1);
         let before = z * stars.len();
-        let mut w = self;
+        let mut seen = self;
         let mut p = first;
         while p < end {
             let i = ids[before + p] as usize;
-            w = w.test(shape, stars, codes, query, i, marks, tally);
+            seen = seen.test(shape, stars, codes, query, aim, i, marks, tally);
             p += 1;
         }
-        w
+        seen
     }
+}
 
+// The state of the walk: how many steps were taken, how many buckets they opened, and what is known of the entries that these list.
+pub struct Walk {
+    pub at: u32,
+    pub opened: Opened,
+    pub seen: Seen,
+    pub met: Met,
+}
+
+impl Walk {
     // Opens bucket v of table z: it is bad, or its entries are tested.
     fn open(
         self,
@@ -243,6 +292,7 @@ impl Walk {
         starts: &[u32],
         ids: &[u32],
         query: &[u64],
+        aim: Aim,
         z: usize,
         v: usize,
         marks: &mut [u64],
@@ -250,33 +300,40 @@ impl Walk {
     ) -> Walk
         requires { ⌜ Asked (asks shape (now stars) (now codes) (now starts) (now ids) (now query)) ⌝ }
         requires { ⌜ (z < m shape) × (v < size shape z) × (self .met ≡ Met.Clear) × (self .opened .0 < 16842752) ⌝ }
-        requires { ⌜ Counted (λ (j : ℕ). getD (now stars) j 0) (distanceFrom (shape .w) (now codes) (now query)) (markWords (length (now stars))) self (now marks) (now tally) ⌝ }
-        ensures { λ r. ⌜ Opening (asks shape (now (stars .entry)) (now (codes .entry)) (now (starts .entry)) (now (ids .entry)) (now (query .entry))) ((z, v) ∷ []) self r (now (marks .entry)) (now (marks .exit)) (now (tally .exit)) ⌝ }
+        requires { ⌜ Counted aim (λ (j : ℕ). getD (now stars) j 0) (distanceFrom (shape .w) (now codes) (now query)) (markWords (length (now stars))) (self .seen) (now marks) (now tally) ⌝ }
+        ensures { λ r. ⌜ Opening (asks shape (now (stars .entry)) (now (codes .entry)) (now (starts .entry)) (now (ids .entry)) (now (query .entry))) aim ((z, v) ∷ []) self r (now (marks .entry)) (now (marks .exit)) (now (tally .exit)) ⌝ }
     {
         let opened = self.opened;
-        let tested = self.tested;
-        let rivals = self.rivals;
+        let seen = self.seen;
         if bad_bucket(shape, stars, codes, starts, ids, z, v) {
             let table = z as u32;
             let bucket = v as u32;
             return Walk {
                 at: self.at,
                 opened,
-                tested,
-                near: self.near,
-                rivals,
+                seen,
                 met: Met::Refused(Refusal::BadBucket { table, bucket }),
             };
         }
-        let w = Walk {
+        let seen = seen.test_all(
+            shape,
+            stars,
+            codes,
+            starts,
+            ids,
+            query,
+            aim,
+            z,
+            v,
+            marks,
+            tally,
+        );
+        Walk {
             at: self.at,
             opened: Opened(opened.0 + 1),
-            tested,
-            near: self.near,
-            rivals,
+            seen,
             met: Met::Clear,
-        };
-        w.test_all(shape, stars, codes, starts, ids, query, z, v, marks, tally)
+        }
     }
 
     // Opens the buckets of table z that differ from the query's substring in r bits, ascending by the exclusive-or, up to the first bad one.
@@ -288,6 +345,7 @@ impl Walk {
         starts: &[u32],
         ids: &[u32],
         query: &[u64],
+        aim: Aim,
         z: usize,
         r: u32,
         marks: &mut [u64],
@@ -295,8 +353,8 @@ impl Walk {
     ) -> Walk
         requires { ⌜ Asked (asks shape (now stars) (now codes) (now starts) (now ids) (now query)) ⌝ }
         requires { ⌜ (z < m shape) × (self .met ≡ Met.Clear) × (self .opened .0 ≤ 16777216) ⌝ }
-        requires { ⌜ Counted (λ (j : ℕ). getD (now stars) j 0) (distanceFrom (shape .w) (now codes) (now query)) (markWords (length (now stars))) self (now marks) (now tally) ⌝ }
-        ensures { λ o. ⌜ Opening (asks shape (now (stars .entry)) (now (codes .entry)) (now (starts .entry)) (now (ids .entry)) (now (query .entry))) (around z r (substring (firstBit shape z) (len shape z) (now (query .entry))) (size shape z)) self o (now (marks .entry)) (now (marks .exit)) (now (tally .exit)) ⌝ }
+        requires { ⌜ Counted aim (λ (j : ℕ). getD (now stars) j 0) (distanceFrom (shape .w) (now codes) (now query)) (markWords (length (now stars))) (self .seen) (now marks) (now tally) ⌝ }
+        ensures { λ o. ⌜ Opening (asks shape (now (stars .entry)) (now (codes .entry)) (now (starts .entry)) (now (ids .entry)) (now (query .entry))) aim (around z r (substring (firstBit shape z) (len shape z) (now (query .entry))) (size shape z)) self o (now (marks .entry)) (now (marks .exit)) (now (tally .exit)) ⌝ }
     {
         let sub = query_substring(shape, query, z);
         let buckets = shapes::buckets(shape, z);
@@ -312,6 +370,7 @@ impl Walk {
                 starts,
                 ids,
                 query,
+                aim,
                 z,
                 sub ^ e,
                 marks,
@@ -327,24 +386,32 @@ impl Walk {
     }
 
     // No step is taken yet.
-    fn start() -> Walk
-        ensures { λ r. ⌜ Start r ⌝ }
+    fn start(aim: Aim) -> Walk
+        ensures { λ r. ⌜ Start aim r ⌝ }
     {
+        let limit = match aim {
+            Aim::Nearest(_, r) => r,
+            Aim::TwoStars => NOBODY / ENTRIES,
+        };
+        let rivals = Rivals {
+            first: NOBODY,
+            star: 0,
+            other: NOBODY,
+        };
         Walk {
             at: 0,
             opened: Opened(0),
-            tested: Tested(0),
-            near: 0,
-            rivals: Rivals {
-                first: NOBODY,
-                star: 0,
-                other: NOBODY,
+            seen: Seen {
+                tested: Tested(0),
+                limit,
+                near: 0,
+                rivals,
             },
             met: Met::Clear,
         }
     }
 
-    // Takes step R = m * r + a: opens in table a the buckets that differ from the query's substring in r bits. Those tested before at distance R are near from now on.
+    // Takes step R = m * r + a: opens in table a the buckets that differ from the query's substring in r bits.
     fn step(
         self,
         shape: Shape,
@@ -353,47 +420,44 @@ impl Walk {
         starts: &[u32],
         ids: &[u32],
         query: &[u64],
+        aim: Aim,
         marks: &mut [u64],
         tally: &mut [u32],
     ) -> Walk
         requires { ⌜ Asked (asks shape (now stars) (now codes) (now starts) (now ids) (now query)) ⌝ }
         requires { ⌜ self .at ≤ 256 ⌝ }
-        requires { ⌜ Going (asks shape (now stars) (now codes) (now starts) (now ids) (now query)) self (now marks) (now tally) ⌝ }
-        ensures { λ r. ⌜ Stepped (asks shape (now (stars .entry)) (now (codes .entry)) (now (starts .entry)) (now (ids .entry)) (now (query .entry))) self r (now (marks .exit)) (now (tally .exit)) ⌝ }
+        requires { ⌜ Going (asks shape (now stars) (now codes) (now starts) (now ids) (now query)) aim self (now marks) (now tally) ⌝ }
+        ensures { λ r. ⌜ Stepped (asks shape (now (stars .entry)) (now (codes .entry)) (now (starts .entry)) (now (ids .entry)) (now (query .entry))) aim self r (now (marks .exit)) (now (tally .exit)) ⌝ }
     {
         let m = shapes::tables(shape);
         let step = self.at as usize;
         let a = step % m;
         let r = (step / m) as u32;
         let opened = self.opened;
-        let tested = self.tested;
-        let rivals = self.rivals;
+        let seen = self.seen;
         let w = Walk {
             at: self.at + 1,
             opened,
-            tested,
-            near: self.near + tally[step],
-            rivals,
+            seen,
             met: Met::Clear,
         };
-        w.open_all(shape, stars, codes, starts, ids, query, a, r, marks, tally)
-    }
-
-    // Whether the walk has seen enough.
-    fn done(self, aim: Aim) -> bool
-        requires { ⌜ self .at ≤ 256 ⌝ }
-        ensures { λ r. ⌜ r ≡ reached aim self ⌝ }
-    {
-        let rivals = self.rivals;
-        match aim {
-            Aim::Never => false,
-            Aim::Count(k) => k <= self.near,
-            Aim::TwoStars => rivals.other < ENTRIES * self.at,
-        }
+        w.open_all(
+            shape,
+            stars,
+            codes,
+            starts,
+            ids,
+            query,
+            aim,
+            a,
+            r,
+            marks,
+            tally,
+        )
     }
 }
 
-// Takes steps until the walk has seen enough, or step top is taken, or a bad bucket is met.
+// Takes steps until the limit is below the next one, so that nothing farther can be listed, or step top is taken, or a bad bucket is met.
 fn until(
     shape: Shape,
     stars: &[u32],
@@ -407,16 +471,17 @@ fn until(
     tally: &mut [u32],
 ) -> Walk
     requires { ⌜ Asked (asks shape (now stars) (now codes) (now starts) (now ids) (now query)) ⌝ }
-    requires { ⌜ top ≤ 256 ⌝ }
+    requires { ⌜ (top ≤ 256) × Sensible aim top ⌝ }
     requires { ⌜ Fresh (markWords (length (now stars))) (now marks) (now tally) ⌝ }
-    ensures { λ r. ⌜ (let ask = asks shape (now (stars .entry)) (now (codes .entry)) (now (starts .entry)) (now (ids .entry)) (now (query .entry)) in Walked ask (stepsTo (enoughAfter ask aim) top) r (now (marks .exit)) (now (tally .exit))) ⌝ }
+    ensures { λ r. ⌜ (let ask = asks shape (now (stars .entry)) (now (codes .entry)) (now (starts .entry)) (now (ids .entry)) (now (query .entry)) in Walked ask aim (stepsTo (enoughAfter ask aim) top) r (now (marks .exit)) (now (tally .exit))) ⌝ }
 {
-    let mut w = Walk::start();
+    let mut w = Walk::start(aim);
     while w.at <= top {
-        if w.done(aim) {
+        let seen = w.seen;
+        if seen.limit < w.at {
             return w;
         }
-        w = w.step(shape, stars, codes, starts, ids, query, marks, tally);
+        w = w.step(shape, stars, codes, starts, ids, query, aim, marks, tally);
         let met = w.met;
         if let Met::Refused(_) = met {
             return w;
@@ -425,7 +490,7 @@ fn until(
     w
 }
 
-// The walk of a search for the k nearest, k being at most n.
+// The walk of a search for the k nearest, k being at most n. No step where k is 0.
 pub fn nearest(
     shape: Shape,
     stars: &[u32],
@@ -440,8 +505,13 @@ pub fn nearest(
     requires { ⌜ Asked (asks shape (now stars) (now codes) (now starts) (now ids) (now query)) ⌝ }
     requires { ⌜ k ≤ length (now stars) ⌝ }
     requires { ⌜ Fresh (markWords (length (now stars))) (now marks) (now tally) ⌝ }
-    ensures { λ r. ⌜ (let ask = asks shape (now (stars .entry)) (now (codes .entry)) (now (starts .entry)) (now (ids .entry)) (now (query .entry)) in Walked ask (nearestSteps ask k) r (now (marks .exit)) (now (tally .exit))) ⌝ }
+    ensures { λ r. ⌜ (let ask = asks shape (now (stars .entry)) (now (codes .entry)) (now (starts .entry)) (now (ids .entry)) (now (query .entry)) in Walked ask (Aim.Nearest k (q shape)) (nearestSteps ask k) r (now (marks .exit)) (now (tally .exit))) ⌝ }
 {
+    let top = 64 * shape.w;
+    let aim = Aim::Nearest(k, top);
+    if k == 0 {
+        return Walk::start(aim);
+    }
     until(
         shape,
         stars,
@@ -449,8 +519,8 @@ pub fn nearest(
         starts,
         ids,
         query,
-        Aim::Count(k),
-        64 * shape.w,
+        aim,
+        top,
         marks,
         tally,
     )
@@ -471,10 +541,11 @@ pub fn within(
     requires { ⌜ Asked (asks shape (now stars) (now codes) (now starts) (now ids) (now query)) ⌝ }
     requires { ⌜ r ≤ q shape ⌝ }
     requires { ⌜ Fresh (markWords (length (now stars))) (now marks) (now tally) ⌝ }
-    ensures { λ o. ⌜ (let ask = asks shape (now (stars .entry)) (now (codes .entry)) (now (starts .entry)) (now (ids .entry)) (now (query .entry)) in Walked ask (withinSteps (ask .index) r) o (now (marks .exit)) (now (tally .exit))) ⌝ }
+    ensures { λ o. ⌜ (let ask = asks shape (now (stars .entry)) (now (codes .entry)) (now (starts .entry)) (now (ids .entry)) (now (query .entry)) in Walked ask (Aim.Nearest 65537 r) (withinSteps (ask .index) r) o (now (marks .exit)) (now (tally .exit))) ⌝ }
 {
+    let aim = Aim::Nearest(ALL, r);
     if stars.len() == 0 {
-        return Walk::start();
+        return Walk::start(aim);
     }
     until(
         shape,
@@ -483,7 +554,7 @@ pub fn within(
         starts,
         ids,
         query,
-        Aim::Never,
+        aim,
         r,
         marks,
         tally,
@@ -503,10 +574,10 @@ pub fn verdict(
 ) -> Walk
     requires { ⌜ Asked (asks shape (now stars) (now codes) (now starts) (now ids) (now query)) ⌝ }
     requires { ⌜ Fresh (markWords (length (now stars))) (now marks) (now tally) ⌝ }
-    ensures { λ o. ⌜ (let ask = asks shape (now (stars .entry)) (now (codes .entry)) (now (starts .entry)) (now (ids .entry)) (now (query .entry)) in Walked ask (verdictSteps ask) o (now (marks .exit)) (now (tally .exit))) ⌝ }
+    ensures { λ o. ⌜ (let ask = asks shape (now (stars .entry)) (now (codes .entry)) (now (starts .entry)) (now (ids .entry)) (now (query .entry)) in Walked ask Aim.TwoStars (verdictSteps ask) o (now (marks .exit)) (now (tally .exit))) ⌝ }
 {
     if stars.len() == 0 {
-        return Walk::start();
+        return Walk::start(Aim::TwoStars);
     }
     until(
         shape,

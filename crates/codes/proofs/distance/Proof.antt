@@ -1,93 +1,56 @@
--- `codes::distance` meets its contract. The loop's invariant: r is the distance over the words passed. Assumes nothing.
-use mathlib.Core.Path.{_≡_, sym, ap, _∙_}
-use Prim.Native.Nat.{ℕ, _+_, _*_, _-_, _≤_}
+-- `codes::distance` meets its contract. Assumes nothing.
+use mathlib.Core.Path.{sym}
+use Prim.Native.Nat.{ℕ, _+_, _*_, _/_}
 use native.Mathlib.Omega.{arith}
+use Rattle.scope.specs.Codes.{codeOf}
+use Rattle.scope.proofs.Codes.{distance-mono}
+use Rattle.codes.specs.Distances.{distanceFrom}
+use Rattle.codes.proofs.Limits.{limited-near, limited-far}
 use borrow.Author.Needs.{needs}
-use lib.ListN.{getD}
-use lib.Bits.{bitXor}
-use lib.Count.{ones}
-use Rattle.scope.specs.Codes.{distance, codeOf}
-use Rattle.scope.proofs.Codes.{distance-none, distance-entry, distance-le}
 use Rattle.codes.proofs.distance.Statement.{statement}
 use Rattle.codes.proofs.distance.Tie as tie
 
-abbrev Inv-loop : tie.InvT-loop
-Inv-loop codes i w query at r₀ k₀ r k = (k ≤ w) × (r ≡ distance (64 * k) (codeOf w codes i) query)
+-- entry i's distance
+abbrev D : tie.Start → ℕ
+D s = distanceFrom (s .args .w) (s .args .codes .now) (s .args .query .now) (s .args .i)
 
-abbrev μ-loop : tie.MeasureT-loop
-μ-loop codes i w query at r₀ k₀ r k = w - k
+add-if1 : tie.Need-add-if1
+add-if1 c = search needs
 
--- one turn more
-step : (c : tie.After-shared-slice-known2 Inv-loop μ-loop)
-    → let a = c .before .before .before .before .args in
-    let k = c .before .before .before .loop .k in
-    distance (64 * (k + 1)) (codeOf (a .w) (a .codes .now) (a .i)) (a .query .now)
-    ≡ c .before .before .before .loop .r + ones (bitXor (getD (a .codes .now) (a .i * a .w + k) 0) (getD (a .query .now) k 0))
-step c =
-    let a = c .before .before .before .before .args in
-    let k = c .before .before .before .loop .k in
-    distance-entry (a .w) (a .codes .now) (a .query .now) (a .i) k (omega arith)
-    (omega (arith, c .before .shared-slice-known .given (a .i * a .w + k))) (omega (arith, c .shared-slice-known2 .given k))
-    ∙ rw (c .before .before .before .loop .inv .1)
+mul-if1 : tie.Need-mul-if1
+mul-if1 c = search needs
 
-mul-at : tie.Need-mul-at Inv-loop μ-loop
-mul-at c = search needs
+add-few : tie.Need-add-few
+add-few c = search needs
 
-loop-holds : tie.Need-loop-holds Inv-loop μ-loop
-loop-holds c = (omega arith, sym (distance-none _ _))
+differing-requires : tie.Need-differing-requires
+differing-requires c κs = search needs
 
-add-r : tie.Need-add-r Inv-loop μ-loop
-add-r c = search needs
-
-mul-r : tie.Need-mul-r Inv-loop μ-loop
-mul-r c = search needs
-
-shared-slice-read-r : tie.Need-shared-slice-read-r Inv-loop μ-loop
-shared-slice-read-r c = search needs
-
-mul-r-2 : tie.Need-mul-r-2 Inv-loop μ-loop
-mul-r-2 c = search needs
-
-shared-slice-read-r-2 : tie.Need-shared-slice-read-r-2 Inv-loop μ-loop
-shared-slice-read-r-2 c = search needs
-
-add-r-2 : tie.Need-add-r-2 Inv-loop μ-loop
-add-r-2 c =
-    let at-loop : tie.At-loop Inv-loop μ-loop = search in
-    let a : tie.Start Inv-loop μ-loop = search in
-    let k = at-loop .loop .k in
-    omega (arith, step c, distance-le (64 * (k + 1)) (codeOf (a .args .w) (a .args .codes .now) (a .args .i)) (a .args .query .now))
-
-add-k : tie.Need-add-k Inv-loop μ-loop
-add-k c = search needs
-
-loop-less : tie.Need-loop-less Inv-loop μ-loop
-loop-less c = search needs
-
-loop-again : tie.Need-loop-again Inv-loop μ-loop
-loop-again c = (search needs, sym (step c))
-
-returns : tie.Need-returns Inv-loop μ-loop
+-- over the limit in the first words
+returns : tie.Need-returns
 returns c =
-    let e : c .before .loop .k ≡ c .before .before .args .w = omega arith in
-    let a = c .before .before .args in
-    c .before .loop .inv .1 ∙ ap (λ (n : ℕ). distance (64 * n) (codeOf (a .w) (a .codes .now) (a .i)) (a .query .now)) e
+    let s : tie.Start = search in
+    let a = s .args in
+    let at-differing : tie.After-differing = search in
+    sym (limited-far (a .limit) (D s)
+    (omega (arith, c .if2 .taken, at-differing .differing .ensures, distance-mono (64 * (a .limit / 24 + 1)) (64 * a .w) (codeOf (a .w) (a .codes .now) (a .i)) (a .query .now) (omega arith))))
+
+differing-requires-2 : tie.Need-differing-requires-2
+differing-requires-2 c κs = search needs
+
+returns-2 : tie.Need-returns-2
+returns-2 c =
+    let s : tie.Start = search in
+    let at-differing : tie.After-differing2 = search in
+    sym (limited-far (s .args .limit) (D s) (omega (arith, c .if3 .taken, at-differing .differing2 .ensures)))
+
+returns-3 : tie.Need-returns-3
+returns-3 c =
+    let s : tie.Start = search in
+    let at-differing : tie.After-differing2 = search in
+    rw (at-differing .differing2 .ensures) (sym (limited-near (s .args .limit) (D s) (omega (arith, c .if3 .left, at-differing .differing2 .ensures))))
 
 pub distance-spec : {M : Type 1} → statement M
 distance-spec =
     tie.close
-    (tie.spec
-    Inv-loop
-    μ-loop
-    mul-at
-    loop-holds
-    add-r
-    mul-r
-    shared-slice-read-r
-    mul-r-2
-    shared-slice-read-r-2
-    add-r-2
-    add-k
-    loop-less
-    loop-again
-    returns)
+    (tie.spec add-if1 mul-if1 add-few differing-requires returns differing-requires-2 returns-2 returns-3)

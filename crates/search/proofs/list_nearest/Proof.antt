@@ -1,14 +1,14 @@
 -- `search::list_nearest` meets its contract. Assumes nothing.
 use mathlib.Core.Path.{_≡_, refl, sym, ap, _∙_}
 use mathlib.Core.List.{[]}
-use Prim.Native.Nat.{ℕ}
+use Prim.Native.Nat.{ℕ, _+_, _≤_}
 use native.Mathlib.Omega.{arith}
 use lib.ListN.{length}
+use lib.Seq.{length-take-le}
 use Rattle.theory.specs.Lists.{over, padded}
 use Rattle.theory.proofs.Lists.{over-padded}
 use Rattle.scope.specs.declared.Found.the-variants.{Listed}
 use Rattle.scope.specs.Walk.{Question}
-use Rattle.scope.proofs.Shapes.{facts}
 use Rattle.scope.proofs.Ends.{end-is}
 use Rattle.walk.specs.Steps.{asks}
 use Rattle.search.proofs.Listing
@@ -73,20 +73,40 @@ returns c =
 enum-told : tie.Need-enum-told
 enum-told c = search needs
 
-mul-limit : tie.Need-mul-limit
-mul-limit c =
-    let s : tie.Start = search in
-    let w = facts _ (s .pre .0 .lent .known) .few-words in omega arith
+-- the walk met no bad bucket
+abbrev walked-of : tie.After-enum-told → tie.After-nearest
+walked-of c = search
+
+-- the tally goes up to the limit
+inside : (c : tie.After-enum-told) → let w = walked-of c .nearest in w .result .seen .limit + 1 ≤ length (w .last .1 .1 .1 .1 .1 .1 .1 .1 .0)
+inside c = Listing.in-tally _ _ _ _ _ _ _ (walked-of c .nearest .ensures .clear (c .enum-told .given .1))
+
+cast-end : tie.Need-cast-end
+cast-end c = search needs
+
+add-end : tie.Need-add-end
+add-end c =
+    let told : tie.After-enum-told = search in
+    let i = walked-of told .nearest .ensures .clear (told .enum-told .given .1) .left .inside in omega arith
 
 cast-rank : tie.Need-cast-rank
 cast-rank c = search needs
 
+slice-relend-prefix-rank : tie.Need-slice-relend-prefix-rank
+slice-relend-prefix-rank c =
+    let told : tie.After-enum-told = search in
+    omega (arith, inside told)
+
+slice-aggregate-rank : tie.Need-slice-aggregate-rank
+slice-aggregate-rank c =
+    let told : tie.After-enum-told = search in
+    sym (length-take-le (walked-of told .nearest .result .seen .limit + 1) _ (inside told))
+
 rank-requires : tie.Need-rank-requires
 rank-requires c κs =
-    let at-enum-told : tie.After-enum-told = search in
-    let at-nearest : tie.After-nearest = search in
-    let s = start-of at-nearest in
-    Listing.rankable (Ask s) _ _ _ _ (s .pre .0) (at-nearest .nearest .ensures .clear (at-enum-told .enum-told .given .1)) _ _ _ (s .pre .1 .0 .1) (s .pre .1 .0 .2)
+    let told : tie.After-enum-told = search in
+    let s = start-of (walked-of told) in
+    Listing.rankable (Ask s) _ _ _ _ _ _ (walked-of told .nearest .ensures .clear (told .enum-told .given .1)) (s .pre .0) _ _ _ _ refl (s .pre .1 .0 .1) (s .pre .1 .0 .2)
 
 cast-smaller : tie.Need-cast-smaller
 cast-smaller c = search needs
@@ -113,10 +133,10 @@ returns-2 : tie.Need-returns-2
 returns-2 c =
     let at-rank : tie.After-rank = search in
     let at-enum-told : tie.After-enum-told = search in
-    let at-nearest : tie.After-nearest = search in
+    let at-nearest = walked-of at-enum-told in
     let s = start-of at-nearest in
     let ended = at-nearest .nearest .ensures .clear (at-enum-told .enum-told .given .1) in
-    end-is (ap (λ (a : ℕ). Listed (record { answers = a; opened = at-nearest .nearest .result .opened; tested = at-nearest .nearest .result .tested })) (c .smaller .ensures))
+    end-is (ap (λ (a : ℕ). Listed (record { answers = a; opened = at-nearest .nearest .result .opened; tested = at-nearest .nearest .result .seen .tested })) (c .smaller .ensures))
     (at-rank .rank .ensures .cleared ∙ over-padded _ [] _ (ended .long)) (at-rank .rank .ensures .listed) (at-rank .rank .ensures .measured)
     ∙ sym (Listing.nearest-listed (Ask s) (s .args .places) (s .pre .1 .0 .0) _ _ _ (at-nearest .nearest .ensures) (s .args .marks .now) _ _ (s .pre .1 .1 .0) (at-enum-told .enum-told .given .1))
 
@@ -135,8 +155,11 @@ list-nearest-spec =
     same-length-4
     returns
     enum-told
-    mul-limit
+    cast-end
+    add-end
     cast-rank
+    slice-relend-prefix-rank
+    slice-aggregate-rank
     rank-requires
     cast-smaller
     smaller-requires

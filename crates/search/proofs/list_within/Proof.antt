@@ -1,9 +1,10 @@
 -- `search::list_within` meets its contract. Assumes nothing.
 use mathlib.Core.Path.{_≡_, refl, sym, ap, _∙_}
 use mathlib.Core.List.{[]}
-use Prim.Native.Nat.{ℕ}
+use Prim.Native.Nat.{ℕ, _+_, _≤_}
 use native.Mathlib.Omega.{arith}
 use lib.ListN.{length}
+use lib.Seq.{length-take-le}
 use Rattle.theory.specs.Lists.{over, padded}
 use Rattle.theory.proofs.Lists.{over-padded}
 use Rattle.scope.specs.Walk.{Question}
@@ -68,24 +69,52 @@ returns c =
     let s = start-of walked in
     let wiped = at-wipe .wipe .ensures in
     end-is refl (wiped .0 ∙ ap (λ (k : ℕ). padded k []) (long walked ∙ s .pre .1 .1 .0)) (wiped .1 .0) (wiped .1 .1)
-    ∙ sym (Listing.within-refused (Ask s) (s .args .r) _ _ _ (walked .within .ensures) (s .args .marks .now) _ _ (s .pre .1 .1 .0) _ _ (at-smaller .smaller .ensures) (at-smaller2 .smaller2 .ensures) _ (at-met .met .given .1))
+    ∙ sym (Listing.within-refused (Ask s) (s .args .r) (s .pre .0 .lent .few) _ _ _ (walked .within .ensures) (s .args .marks .now) _ _ (s .pre .1 .1 .0) _ _ (at-smaller .smaller .ensures) (at-smaller2 .smaller2 .ensures) _ (at-met .met .given .1))
 
 enum-told : tie.Need-enum-told
 enum-told c = search needs
 
+-- the walk met no bad bucket, and its limit is r
+abbrev walked-of : tie.After-enum-told → tie.After-within
+walked-of c = search
+
+limit-is : (c : tie.After-enum-told) → walked-of c .within .result .seen .limit ≡ start-of (walked-of c) .args .r
+limit-is c =
+    let few = start-of (walked-of c) .pre .0 .lent .few in
+    Listing.limit-stays _ _ _ _ _ _ _ (walked-of c .within .ensures .clear (c .enum-told .given .1)) (omega arith)
+
+-- the tally goes up to it
+inside : (c : tie.After-enum-told) → start-of (walked-of c) .args .r + 1 ≤ length (walked-of c .within .last .1 .1 .1 .1 .1 .1 .1 .1 .0)
+inside c = omega (arith, limit-is c, Listing.in-tally _ _ _ _ _ _ _ (walked-of c .within .ensures .clear (c .enum-told .given .1)))
+
+add-end : tie.Need-add-end
+add-end c =
+    let told : tie.After-enum-told = search in
+    let i = walked-of told .within .ensures .clear (told .enum-told .given .1) .left .inside in omega arith
+
 cast-rank : tie.Need-cast-rank
 cast-rank c = search needs
+
+slice-relend-prefix-rank : tie.Need-slice-relend-prefix-rank
+slice-relend-prefix-rank c =
+    let told : tie.After-enum-told = search in
+    omega (arith, inside told)
+
+slice-aggregate-rank : tie.Need-slice-aggregate-rank
+slice-aggregate-rank c =
+    let told : tie.After-enum-told = search in
+    sym (length-take-le (start-of (walked-of told) .args .r + 1) _ (inside told))
 
 rank-requires : tie.Need-rank-requires
 rank-requires c κs =
     let at-enum-told : tie.After-enum-told = search in
-    let at-within : tie.After-within = search in
+    let at-within = walked-of at-enum-told in
     let at-smaller2 : tie.After-smaller2 = search in
     let at-smaller : tie.After-smaller = search in
     let s = start-of at-within in
     let shorter = at-smaller .smaller .ensures in
     let places = at-smaller2 .smaller2 .ensures in
-    Listing.rankable (Ask s) _ _ _ _ (s .pre .0) (at-within .within .ensures .clear (at-enum-told .enum-told .given .1)) _ _ _ (omega arith) (omega arith)
+    Listing.rankable (Ask s) _ _ _ _ _ _ (at-within .within .ensures .clear (at-enum-told .enum-told .given .1)) (s .pre .0) _ _ _ _ (sym (limit-is at-enum-told)) (omega arith) (omega arith)
 
 cast-if1 : tie.Need-cast-if1
 cast-if1 c =
@@ -93,7 +122,7 @@ cast-if1 c =
     let at-within : tie.After-within = search in
     let s = start-of at-within in
     let few = s .pre .0 .lent .few in
-    omega (arith, Listing.near-few (Ask s) _ _ _ _ (at-within .within .ensures .clear (at-enum-told .enum-told .given .1)))
+    omega (arith, Listing.near-few (Ask s) _ _ _ _ _ _ (at-within .within .ensures .clear (at-enum-told .enum-told .given .1)))
 
 same-length-5 : tie.Need-same-length-5
 same-length-5 c = search needs
@@ -117,7 +146,7 @@ returns-2 c =
     let s = start-of at-within in
     let ended = at-within .within .ensures .clear (at-enum-told .enum-told .given .1) in
     end-is refl (at-rank .rank .ensures .cleared ∙ over-padded _ [] _ (ended .long)) (at-rank .rank .ensures .listed) (at-rank .rank .ensures .measured)
-    ∙ sym (Listing.within-many (Ask s) (s .args .r) _ _ _ (at-within .within .ensures) (s .args .marks .now) _ _ (s .pre .1 .1 .0) _ _ (at-smaller .smaller .ensures) (at-smaller2 .smaller2 .ensures) (at-enum-told .enum-told .given .1) (c .if1 .taken))
+    ∙ sym (Listing.within-many (Ask s) (s .args .r) (s .pre .0 .lent .few) _ _ _ (at-within .within .ensures) (s .args .marks .now) _ _ (s .pre .1 .1 .0) _ _ (at-smaller .smaller .ensures) (at-smaller2 .smaller2 .ensures) (at-enum-told .enum-told .given .1) (c .if1 .taken))
 
 same-length-9 : tie.Need-same-length-9
 same-length-9 c = search needs
@@ -141,7 +170,7 @@ returns-3 c =
     let s = start-of at-within in
     let ended = at-within .within .ensures .clear (at-enum-told .enum-told .given .1) in
     end-is refl (at-rank .rank .ensures .cleared ∙ over-padded _ [] _ (ended .long)) (at-rank .rank .ensures .listed) (at-rank .rank .ensures .measured)
-    ∙ sym (Listing.within-listed (Ask s) (s .args .r) _ _ _ (at-within .within .ensures) (s .args .marks .now) _ _ (s .pre .1 .1 .0) _ _ (at-smaller .smaller .ensures) (at-smaller2 .smaller2 .ensures) (at-enum-told .enum-told .given .1) (c .before .before .if1 .left))
+    ∙ sym (Listing.within-listed (Ask s) (s .args .r) (s .pre .0 .lent .few) _ _ _ (at-within .within .ensures) (s .args .marks .now) _ _ (s .pre .1 .1 .0) _ _ (at-smaller .smaller .ensures) (at-smaller2 .smaller2 .ensures) (at-enum-told .enum-told .given .1) (c .before .before .if1 .left))
 
 pub list-within-spec : {M : Type 1} → statement M
 list-within-spec =
@@ -159,7 +188,10 @@ list-within-spec =
     same-length-4
     returns
     enum-told
+    add-end
     cast-rank
+    slice-relend-prefix-rank
+    slice-aggregate-rank
     rank-requires
     cast-if1
     same-length-5

@@ -1,9 +1,12 @@
 -- `walk::verdict` meets its contract. Assumes nothing.
 use native.Mathlib.Omega.{arith}
-use Rattle.scope.specs.Walk.{Question}
+use Rattle.scope.specs.Walk.{Question, distanceOf, starOf, tested}
 use Rattle.scope.proofs.Shapes.{facts}
 use Rattle.scope.proofs.Steps.{verdict-none}
+use Rattle.scope.proofs.Walking.{tested-none}
+use Rattle.walk.specs.Rivals.{standing}
 use Rattle.walk.specs.Steps.{asks}
+use Rattle.walk.proofs.Joining.{best-none}
 use Rattle.walk.proofs.Stepping
 use borrow.Author.Needs.{needs}
 use Rattle.walk.proofs.verdict.Statement.{statement}
@@ -18,7 +21,8 @@ start-requires c κs = search needs
 returns : tie.Need-returns
 returns c =
     let s : tie.Start = search in
-    rw (verdict-none (Ask s) (c .before .if1 .taken)) (Stepping.walked-none (Ask s) _ _ _ (c .start .ensures) (s .pre .1))
+    let none = best-none (starOf (Ask s)) (standing (distanceOf (Ask s))) (tested (Ask s) 0) (tested-none (Ask s)) _ (c .start .ensures .rivals .0) (c .start .ensures .rivals .1) in
+    rw (verdict-none (Ask s) (c .before .if1 .taken)) (Stepping.walked-none (Ask s) _ _ _ _ (c .start .ensures) (s .pre .1) none)
 
 mul-until : tie.Need-mul-until
 mul-until c =
@@ -28,7 +32,8 @@ mul-until c =
 until-requires : tie.Need-until-requires
 until-requires c κs =
     let s : tie.Start = search in
-    (s .pre .0, ((let f = facts _ (s .pre .0 .lent .known) .few-words in omega arith), s .pre .1))
+    let f = facts _ (s .pre .0 .lent .known) .few-words in
+    (s .pre .0, ((omega arith, omega arith), s .pre .1))
 
 same-length : tie.Need-same-length
 same-length c = search needs
@@ -41,7 +46,7 @@ returns-2 c =
     let at-until : tie.After-until = search in
     let at-if1 : tie.Else1 = search in
     let s : tie.Start = search in
-    Stepping.walked-as (Ask s) _ _ (Stepping.verdict-steps (Ask s) (let e = at-if1 .if1 .left in omega arith)) _ _ _ (at-until .until .ensures)
+    Stepping.walked-as (Ask s) _ _ _ (Stepping.verdict-steps (Ask s) (let e = at-if1 .if1 .left in omega arith)) _ _ _ (at-until .until .ensures)
 
 pub verdict-spec : {M : Type 1} → statement M
 verdict-spec =

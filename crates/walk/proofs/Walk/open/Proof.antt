@@ -34,18 +34,19 @@ cast-bucket c =
 returns : tie.Need-returns
 returns c =
     let s : tie.Start = search in
-    Opening.opening-refused (Ask s) _ _ _ _ _ _ _ (sym (c .before .bad-bucket .ensures) ∙ c .if1 .taken) refl
-
-add-t21 : tie.Need-add-t21
-add-t21 c = search needs
+    Opening.opening-refused (Ask s) _ _ _ _ _ _ _ _ (sym (c .before .bad-bucket .ensures) ∙ c .if1 .taken) refl
 
 test-all-requires : tie.Need-test-all-requires
 test-all-requires c κs =
     let at-if1 : tie.Else1 = search in
     let at-bad-bucket : tie.After-bad-bucket = search in
     let s : tie.Start = search in
-    let n = s .pre .1 .1 in
-    (s .pre .0, ((s .pre .1 .0 .0, s .pre .1 .0 .1), (sym (at-bad-bucket .bad-bucket .ensures) ∙ at-if1 .if1 .left, record { long = n .long; tally-is = n .tally-is; near-is = n .near-is; tested-is = n .tested-is; rivals-are = n .rivals-are })))
+    (s .pre .0, ((s .pre .1 .0 .0, s .pre .1 .0 .1), (sym (at-bad-bucket .bad-bucket .ensures) ∙ at-if1 .if1 .left, s .pre .1 .1)))
+
+add-t25 : tie.Need-add-t25
+add-t25 c =
+    let at-bad-bucket : tie.After-bad-bucket = search in
+    let few = start-of at-bad-bucket .pre .1 .0 in omega arith
 
 same-length : tie.Need-same-length
 same-length c = search needs
@@ -69,8 +70,8 @@ open-spec =
     cast-table
     cast-bucket
     returns
-    add-t21
     test-all-requires
+    add-t25
     same-length
     same-length-2
     returns-2)

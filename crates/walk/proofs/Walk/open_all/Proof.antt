@@ -16,6 +16,7 @@ use Rattle.scope.proofs.Codes.{substring-lt}
 use Rattle.scope.specs.Shape.{len, size}
 use Rattle.scope.specs.Walk.{Question}
 use Rattle.scope.proofs.Shapes.{facts, few-buckets}
+use Rattle.walk.specs.declared.Aim.{Aim}
 use Rattle.walk.specs.declared.Met.the-variants.{Clear}
 use Rattle.walk.specs.declared.Walk.{Walk}
 use Rattle.walk.specs.Steps.{asks, around, Opening}
@@ -25,16 +26,16 @@ use Rattle.walk.proofs.Walk.open_all.Statement.{statement}
 use Rattle.walk.proofs.Walk.open_all.Tie as tie
 
 -- the buckets of the exclusive-ors below e are open, and e has r ones or is past the last; every bit of a bucket's number is under the mask
-record Through (ask : Question) (z r sub buckets under : ℕ) (w o : Walk) (marks marks′ tally tally′ : List ℕ) (e : ℕ) : Type 0 where
+record Through (ask : Question) (goal : Aim) (z r sub buckets under : ℕ) (w o : Walk) (marks marks′ tally tally′ : List ℕ) (e : ℕ) : Type 0 where
   few : buckets ≤ 65536
   all : (v : ℕ) → v < buckets → bitAnd v under ≡ v
   here : e < buckets → hasOnes under r e ≡ true
   clear : o .met ≡ Clear
-  opened : Opening ask (around z r sub (min e buckets)) w o marks marks′ tally′
+  opened : Opening ask goal (around z r sub (min e buckets)) w o marks marks′ tally′
   same-marks : length marks′ ≡ length marks
   same-tally : length tally′ ≡ length tally
 
-module _ {ask : Question} {z r sub buckets under : ℕ} {w o : Walk} {marks marks′ tally tally′ : List ℕ} {e : ℕ} (h : Through ask z r sub buckets under w o marks marks′ tally tally′ e) where
+module _ {ask : Question} {goal : Aim} {z r sub buckets under : ℕ} {w o : Walk} {marks marks′ tally tally′ : List ℕ} {e : ℕ} (h : Through ask goal z r sub buckets under w o marks marks′ tally tally′ e) where
   many : o .opened .0 ≤ w .opened .0 + e
   many = let sum = h .opened .clear (h .clear) .opened in omega (arith, opening.around-few z r sub (min e buckets))
 
@@ -48,19 +49,19 @@ module _ {ask : Question} {z r sub buckets under : ℕ} {w o : Walk} {marks mark
   passes l = let few = h .few in first-passes (hasOnes under r) 65536 (e + 1) (omega arith)
 
   -- with bucket e too, all are open that belong below k, which is not past the next
-  more : e < buckets → (u : Walk) (marks″ tally″ : List ℕ) → Opening ask ((z, bitXor sub e) ∷ []) o u marks′ marks″ tally″ → (k : ℕ) → e < k → k ≤ buckets → k ≤ after
-      → Opening ask (around z r sub k) w u marks marks″ tally″
+  more : e < buckets → (u : Walk) (marks″ tally″ : List ℕ) → Opening ask goal ((z, bitXor sub e) ∷ []) o u marks′ marks″ tally″ → (k : ℕ) → e < k → k ≤ buckets → k ≤ after
+      → Opening ask goal (around z r sub k) w u marks marks″ tally″
   more l u marks″ tally″ g k above inside below =
       let here : min e buckets ≡ e = omega arith in
       rw (opening.around-next z under r sub buckets (h .all) 65536 e k (h .here l) above inside below)
-      (opening.opening-more ask w marks _ _ o u marks′ tally′ marks″ tally″ (rw here at (h .opened)) (h .clear) g)
+      (opening.opening-more ask goal w marks _ _ o u marks′ tally′ marks″ tally″ (rw here at (h .opened)) (h .clear) g)
 
 abbrev Inv-loop : tie.InvT-loop
-Inv-loop shape stars codes starts ids query z r marks₀ tally₀ sub buckets under w₀ e₀ marks tally w e =
-    Through (asks shape stars codes starts ids query) z r sub buckets under w₀ w marks₀ marks tally₀ tally e
+Inv-loop shape stars codes starts ids query aim z r marks₀ tally₀ sub buckets under w₀ e₀ marks tally w e =
+    Through (asks shape stars codes starts ids query) aim z r sub buckets under w₀ w marks₀ marks tally₀ tally e
 
 abbrev μ-loop : tie.MeasureT-loop
-μ-loop shape stars codes starts ids query z r marks₀ tally₀ sub buckets under w₀ e₀ marks tally w e = buckets - e
+μ-loop shape stars codes starts ids query aim z r marks₀ tally₀ sub buckets under w₀ e₀ marks tally w e = buckets - e
 
 abbrev Ask : tie.Start Inv-loop μ-loop → Question
 Ask c = asks (c .args .shape) (c .args .stars .now) (c .args .codes .now) (c .args .starts .now) (c .args .ids .now) (c .args .query .now)
@@ -106,7 +107,7 @@ loop-holds c =
       all = all;
       here = λ l. rw f (first-passes p 65536 0 (omega arith));
       clear = s .pre .1 .0 .1;
-      opened = rw (opening.around-first (s .args .z) (buckets - 1) (s .args .r) _ buckets all 65536 (min (c .first .result) buckets) (omega arith) none) (opening.opening-none (Ask s) _ _ _ (s .pre .1 .0 .1) (s .pre .1 .1));
+      opened = rw (opening.around-first (s .args .z) (buckets - 1) (s .args .r) _ buckets all 65536 (min (c .first .result) buckets) (omega arith) none) (opening.opening-none (Ask s) _ _ _ _ (s .pre .1 .0 .1) (s .pre .1 .1));
       same-marks = refl;
       same-tally = refl;
     }
@@ -155,7 +156,7 @@ returns c =
     let i = at-loop .loop .inv in
     let l = at-loop-test .loop-test .taken in
     rw (← at-query-substring .query-substring .ensures)
-    (opening.around-bad (s .args .z) (s .args .r) (at-query-substring .query-substring .result) (Ask s) _ _ _ _ _ _ (suc (at-loop .loop .e)) _ (let e = at-buckets .buckets .ensures in omega arith)
+    (opening.around-bad (s .args .z) (s .args .r) (at-query-substring .query-substring .result) (Ask s) _ _ _ _ _ _ _ (suc (at-loop .loop .e)) _ (let e = at-buckets .buckets .ensures in omega arith)
     (more i (omega arith) _ _ _ (at-open .«open» .ensures) (suc (at-loop .loop .e)) (omega arith) (omega arith) (past i)) (c .enum-told .given .1))
 
 enum-told-2 : tie.Need-enum-told-2 Inv-loop μ-loop

@@ -1,4 +1,4 @@
--- `walk::Walk::test_all` meets its contract: the loop tests the ids of the places that it passes. Assumes nothing.
+-- `walk::Seen::test_all` meets its contract: the loop tests the ids of the places that it passes. Assumes nothing.
 use mathlib.Core.Path.{_≡_, sym, _∙_}
 use mathlib.Core.Bool.{Bool, false, _||_}
 use mathlib.Core.List.{List, map, map-append}
@@ -16,13 +16,14 @@ use Rattle.scope.specs.Refusals.{markWords}
 use Rattle.scope.proofs.Shapes.{facts, few-buckets}
 use Rattle.scope.proofs.Walking.{Good, good}
 use Rattle.codes.specs.Distances.{distanceFrom}
-use Rattle.walk.specs.declared.Walk.{Walk}
+use Rattle.walk.specs.declared.Aim.{Aim}
+use Rattle.walk.specs.declared.Seen.{Seen}
 use Rattle.walk.specs.Steps.{Tests}
 use Rattle.walk.proofs.Buckets.{in-ids}
 use Rattle.walk.proofs.Testing
 use borrow.Author.Needs.{needs}
-use Rattle.walk.proofs.Walk.test_all.Statement.{statement}
-use Rattle.walk.proofs.Walk.test_all.Tie as tie
+use Rattle.walk.proofs.Seen.test_all.Statement.{statement}
+use Rattle.walk.proofs.Seen.test_all.Tie as tie
 
 -- the bucket's places before p
 abbrev before : Index → ℕ → ℕ → ℕ → ℕ → Bool
@@ -36,17 +37,17 @@ one-more x z v p h i =
     rw (add-one p, between-suc (start x z v) p h, map-append) (has-append i (map (idAt x z) (between (start x z v) p)) _ ∙ rw has-one)
 
 -- the places before p are through
-record Through (x : Index) (z v : ℕ) (star distance : ℕ → ℕ) (w r : Walk) (marks marks′ tally′ : List ℕ) (p : ℕ) : Type 0 where
+record Through (x : Index) (goal : Aim) (z v : ℕ) (star distance : ℕ → ℕ) (r : Seen) (marks marks′ tally′ : List ℕ) (p : ℕ) : Type 0 where
   from : start x z v ≤ p
   to : p ≤ start x z (v + 1)
-  tests : Tests star distance (markWords (n x)) (before x z v p) w r marks marks′ tally′
+  tests : Tests goal star distance (markWords (n x)) (before x z v p) r marks marks′ tally′
 
 abbrev Inv-loop : tie.InvT-loop
-Inv-loop shape stars codes starts ids query z v marks₀ tally₀ first end before w₀ p₀ marks tally w p =
-    Through (index shape stars codes starts ids) z v (λ j. getD stars j 0) (distanceFrom (shape .w) codes query) w₀ w marks₀ marks tally p
+Inv-loop shape stars codes starts ids query aim z v marks₀ tally₀ first end before seen₀ p₀ marks tally seen p =
+    Through (index shape stars codes starts ids) aim z v (λ j. getD stars j 0) (distanceFrom (shape .w) codes query) seen marks₀ marks tally p
 
 abbrev μ-loop : tie.MeasureT-loop
-μ-loop shape stars codes starts ids query z v marks₀ tally₀ first end before w₀ p₀ marks tally w p = end - p
+μ-loop shape stars codes starts ids query aim z v marks₀ tally₀ first end before seen₀ p₀ marks tally seen p = end - p
 
 abbrev X : tie.Start Inv-loop μ-loop → Index
 X c = index (c .args .shape) (c .args .stars .now) (c .args .codes .now) (c .args .starts .now) (c .args .ids .now)
@@ -95,7 +96,7 @@ loop-holds c =
     (record {
       from = omega arith;
       to = sound s .order;
-      tests = Testing.tests-none _ _ _ _ _ _ _ (none-yet (X s) (s .args .z) (s .args .v)) (s .pre .1 .1 .1);
+      tests = Testing.tests-none _ _ _ _ _ _ _ _ (none-yet (X s) (s .args .z) (s .args .v)) (s .pre .1 .1 .1);
     })
 
 add-i : tie.Need-add-i Inv-loop μ-loop
@@ -138,7 +139,7 @@ test-requires c κs =
       (f .few-words, (let l = s .pre .0 .lent .codes in omega arith), s .pre .0 .query),
       (
         (omega arith, omega arith, entry),
-        Testing.at-length _ _ _ _ _ _ (inv .tests .counted),
+        Testing.at-length _ _ _ _ _ _ _ (inv .tests .counted),
       ),
     )
 
@@ -161,7 +162,7 @@ loop-again c =
       from = let l = inv .from in omega arith;
       to = let e = at-start2 .start2 .ensures in omega (arith, at-loop-test .loop-test .taken);
       tests =
-          Testing.tests-more (S s) (D s) _ _ _ _ _ _ _ _ _ _ _ _ (one-more (X s) (s .args .z) (s .args .v) (at-loop .loop .p) (inv .from)) (inv .tests) (at-test .test .ensures);
+          Testing.tests-more _ (S s) (D s) _ _ _ _ _ _ _ _ _ _ _ (one-more (X s) (s .args .z) (s .args .v) (at-loop .loop .p) (inv .from)) (inv .tests) (at-test .test .ensures);
     }
 
 same-length : tie.Need-same-length Inv-loop μ-loop
@@ -172,7 +173,7 @@ same-length c =
 same-length-2 : tie.Need-same-length-2 Inv-loop μ-loop
 same-length-2 c =
     let s : tie.Start Inv-loop μ-loop = search in
-    Testing.tally-long _ _ _ _ _ _ (c .before .loop .inv .tests .counted) ∙ sym (Testing.tally-long _ _ _ _ _ _ (s .pre .1 .1 .1))
+    c .before .loop .inv .tests .counted .whole ∙ sym (s .pre .1 .1 .1 .whole)
 
 returns : tie.Need-returns Inv-loop μ-loop
 unfolding start
