@@ -11,7 +11,7 @@ use scope::{Answer, Found, Refusal, Shape};
 use shapes::Early;
 
 // What is done at a place of the records: whether a record is written there (1 or 0), the refusal's number (0 if none), and the record.
-#[derive(Drop)]
+#[derive(Clone, Copy)]
 pub struct Step {
     pub more: u32,
     pub number: u32,

@@ -3,31 +3,38 @@ use mathlib.Core.List.{List}
 use Prim.Native.Nat.{ℕ}
 use Rattle.theory.specs.Statements.{Determined}
 use Rattle.theory.proofs.Statements.{whole, result, kept}
-use Rattle.codes.proofs.distance
-use Rattle.codes.proofs.substring
-use Rattle.codes.proofs.entry_substring
-use Rattle.codes.proofs.marked
-use Rattle.codes.proofs.mark
-use Rattle.codes.proofs.clear
-use Rattle.codes.proofs.wipe
+use Rattle.codes.specs.contracts.distance as distance
+use Rattle.codes.proofs.distance.Reads as distance_reads
+use Rattle.codes.specs.contracts.substring as substring
+use Rattle.codes.proofs.substring.Reads as substring_reads
+use Rattle.codes.specs.contracts.entry_substring as entry_substring
+use Rattle.codes.proofs.entry_substring.Reads as entry_substring_reads
+use Rattle.codes.specs.contracts.marked as marked
+use Rattle.codes.proofs.marked.Reads as marked_reads
+use Rattle.codes.specs.contracts.mark as mark
+use Rattle.codes.proofs.mark.Reads as mark_reads
+use Rattle.codes.specs.contracts.clear as clear
+use Rattle.codes.proofs.clear.Reads as clear_reads
+use Rattle.codes.specs.contracts.wipe as wipe
+use Rattle.codes.proofs.wipe.Reads as wipe_reads
 
-pub distance-Determined : Determined distance.ended distance.Reads.Post
+pub distance-Determined : Determined distance.ended distance_reads.Post
 distance-Determined κs a x y = result
 
-pub substring-Determined : Determined substring.ended substring.Reads.Post
+pub substring-Determined : Determined substring.ended substring_reads.Post
 substring-Determined κs a x y = result
 
-pub entry_substring-Determined : Determined entry_substring.ended entry_substring.Reads.Post
+pub entry_substring-Determined : Determined entry_substring.ended entry_substring_reads.Post
 entry_substring-Determined κs a x y = result
 
-pub marked-Determined : Determined marked.ended marked.Reads.Post
+pub marked-Determined : Determined marked.ended marked_reads.Post
 marked-Determined κs a x y = result
 
-pub mark-Determined : Determined mark.ended mark.Reads.Post
+pub mark-Determined : Determined mark.ended mark_reads.Post
 mark-Determined κs a x y = whole (λ (l : List ℕ). (tt, (l, kept 1 tt)))
 
-pub clear-Determined : Determined clear.ended clear.Reads.Post
+pub clear-Determined : Determined clear.ended clear_reads.Post
 clear-Determined κs a x y = whole (λ (l : List ℕ). (tt, (l, kept 1 tt)))
 
-pub wipe-Determined : Determined wipe.ended wipe.Reads.Post
+pub wipe-Determined : Determined wipe.ended wipe_reads.Post
 wipe-Determined κs a x y = whole (λ (l : List ℕ). (tt, (l, kept 1 tt)))

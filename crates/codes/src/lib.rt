@@ -7,7 +7,7 @@ ghost use Rattle.codes.specs.Distances.{distance_from, limited};
 ghost use Rattle.codes.specs.Marks.{is_marked, with_mark};
 
 // A distance up to a limit: exact where it is at most that, and otherwise only known to be over.
-#[derive(Drop)]
+#[derive(Clone, Copy)]
 pub enum Limited {
     Exact(u32),
     Over,

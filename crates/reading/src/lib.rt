@@ -22,7 +22,7 @@ const ACROSS: usize = 5;
 const UP: usize = 13;
 
 // What a session has read: how many records, the head's w and m (0 before the head), how many entries, and whether a question came.
-#[derive(Drop)]
+#[derive(Clone, Copy)]
 pub struct Session {
     pub records: u32,
     pub words: u32,
@@ -32,7 +32,7 @@ pub struct Session {
 }
 
 // What stands at the front of the bytes that are left of the input; of a whole record the body's length and the kind.
-#[derive(Drop)]
+#[derive(Clone, Copy)]
 pub enum Front {
     End,
     Cut,
@@ -41,14 +41,14 @@ pub enum Front {
 }
 
 // A code of one or two words; the second is 0 where there is one.
-#[derive(Drop)]
+#[derive(Clone, Copy)]
 pub struct Code {
     pub low: u64,
     pub high: u64,
 }
 
 // What is asked: k, r, or t and g, with a code; or the unit and the number of stars, whose angles stay in the body.
-#[derive(Drop)]
+#[derive(Clone, Copy)]
 pub enum Question {
     Nearest(u32, Code),
     Within(u32, Code),
@@ -57,7 +57,7 @@ pub enum Question {
 }
 
 // What a record means; Over where the input ends.
-#[derive(Drop)]
+#[derive(Clone, Copy)]
 pub enum Record {
     Over,
     Bad,

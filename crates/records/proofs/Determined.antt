@@ -2,9 +2,10 @@
 use Rattle.theory.specs.Statements.{Determined}
 use Rattle.theory.proofs.Statements.{whole, kept}
 use Rattle.transcript.specs.Turn.{TurnEnd}
-use Rattle.records.proofs.turn
+use Rattle.records.specs.contracts.turn as turn
+use Rattle.records.proofs.turn.Reads as turn_reads
 
-pub turn-Determined : Determined turn.ended turn.Reads.Post
+pub turn-Determined : Determined turn.ended turn_reads.Post
 turn-Determined κs a x y =
     whole (λ (e : TurnEnd).
     let d = e.desk in

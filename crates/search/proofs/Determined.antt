@@ -2,15 +2,18 @@
 use Rattle.theory.specs.Statements.{Determined}
 use Rattle.theory.proofs.Statements.{whole, kept}
 use Rattle.scope.specs.Calls.{SearchEnd, VerdictEnd}
-use Rattle.search.proofs.nearest
-use Rattle.search.proofs.within
-use Rattle.search.proofs.verdict
+use Rattle.search.specs.contracts.nearest as nearest
+use Rattle.search.proofs.nearest.Reads as nearest_reads
+use Rattle.search.specs.contracts.within as within
+use Rattle.search.proofs.within.Reads as within_reads
+use Rattle.search.specs.contracts.verdict as verdict
+use Rattle.search.proofs.verdict.Reads as verdict_reads
 
-pub nearest-Determined : Determined nearest.ended nearest.Reads.Post
+pub nearest-Determined : Determined nearest.ended nearest_reads.Post
 nearest-Determined κs a x y = whole (λ (e : SearchEnd). (e.answer, kept 7 (e.marks, (e.entries, (e.distances, tt)))))
 
-pub within-Determined : Determined within.ended within.Reads.Post
+pub within-Determined : Determined within.ended within_reads.Post
 within-Determined κs a x y = whole (λ (e : SearchEnd). (e.answer, kept 7 (e.marks, (e.entries, (e.distances, tt)))))
 
-pub verdict-Determined : Determined verdict.ended verdict.Reads.Post
+pub verdict-Determined : Determined verdict.ended verdict_reads.Post
 verdict-Determined κs a x y = whole (λ (e : VerdictEnd). (e.answer, kept 8 (e.marks, tt)))

@@ -38,7 +38,7 @@ fn codes() -> [u64; 5] {
     [0, 1, 0xff, 0xffff_ffff_ffff_ffff, 0x0101_0101_0101_0101]
 }
 
-#[derive(Drop)]
+#[derive(Clone, Copy)]
 struct Lists {
     starts: [u32; 2057],
     ids: [u32; 41],
@@ -56,14 +56,14 @@ fn built() -> Lists {
 
 // ---- one call, and its line
 
-#[derive(Drop)]
+#[derive(Clone, Copy)]
 enum Question {
     Nearest(u32),
     Within(u32),
 }
 
 // How many mark words and places of the answer lists a call is lent.
-#[derive(Drop)]
+#[derive(Clone, Copy)]
 struct Room {
     words: usize,
     entries: usize,

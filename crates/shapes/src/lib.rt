@@ -7,7 +7,7 @@ ghost use Rattle.scope.specs.Tables.{index};
 use scope::{Refusal, Shape};
 
 // Refusals 1 to 3, or none.
-#[derive(Drop)]
+#[derive(Clone, Copy)]
 pub enum Early {
     Fine,
     Refused(Refusal),
@@ -48,7 +48,7 @@ pub fn tables(shape: Shape) -> usize
 }
 
 // How a code is cut: every substring has `least` bits, and the first `longer` of them one more.
-#[derive(Drop)]
+#[derive(Clone, Copy)]
 struct Cut {
     least: usize,
     longer: usize,

@@ -10,7 +10,7 @@ use scope::{Angle, Refusal, Sky, Unit};
 const MOST_STARS: usize = 4096;
 
 // Where an angle (its column or row) or a star (its cell) lies, or the refusal that it gives.
-#[derive(Drop)]
+#[derive(Clone, Copy)]
 enum Place {
     At(u32),
     Refused(Refusal),

@@ -6,15 +6,23 @@ use Rattle.theory.specs.Statements.{Determined}
 use Rattle.theory.specs.Statements.{DeterminedByHand}
 use Rattle.theory.proofs.Statements.{whole, kept}
 use Rattle.scope.specs.Batch.{BatchEnd}
-use Rattle.tirnavoy.proofs.tirnavoy_build
-use Rattle.tirnavoy.proofs.tirnavoy_check
-use Rattle.tirnavoy.proofs.tirnavoy_nearest
-use Rattle.tirnavoy.proofs.tirnavoy_within
+use Rattle.tirnavoy.specs.contracts.tirnavoy_build as tirnavoy_build
+use Rattle.tirnavoy.proofs.tirnavoy_build.Reads as tirnavoy_build_reads
+use Rattle.tirnavoy.specs.contracts.tirnavoy_check as tirnavoy_check
+use Rattle.tirnavoy.proofs.tirnavoy_check.Reads as tirnavoy_check_reads
+use Rattle.tirnavoy.specs.contracts.tirnavoy_nearest as tirnavoy_nearest
+use Rattle.tirnavoy.proofs.tirnavoy_nearest.Reads as tirnavoy_nearest_reads
+use Rattle.tirnavoy.specs.contracts.tirnavoy_within as tirnavoy_within
+use Rattle.tirnavoy.proofs.tirnavoy_within.Reads as tirnavoy_within_reads
 use Rattle.tirnavoy.specs.contracts.tirnavoy_batch
-use Rattle.tirnavoy.proofs.tirnavoy_verdict
-use Rattle.tirnavoy.proofs.tirnavoy_blackboard
-use Rattle.tirnavoy.proofs.tirnavoy_sky_degrees
-use Rattle.tirnavoy.proofs.tirnavoy_sky_radians
+use Rattle.tirnavoy.specs.contracts.tirnavoy_verdict as tirnavoy_verdict
+use Rattle.tirnavoy.proofs.tirnavoy_verdict.Reads as tirnavoy_verdict_reads
+use Rattle.tirnavoy.specs.contracts.tirnavoy_blackboard as tirnavoy_blackboard
+use Rattle.tirnavoy.proofs.tirnavoy_blackboard.Reads as tirnavoy_blackboard_reads
+use Rattle.tirnavoy.specs.contracts.tirnavoy_sky_degrees as tirnavoy_sky_degrees
+use Rattle.tirnavoy.proofs.tirnavoy_sky_degrees.Reads as tirnavoy_sky_degrees_reads
+use Rattle.tirnavoy.specs.contracts.tirnavoy_sky_radians as tirnavoy_sky_radians
+use Rattle.tirnavoy.proofs.tirnavoy_sky_radians.Reads as tirnavoy_sky_radians_reads
 
 -- k numbers of a list: what is returned and the outs
 abbrev Numbers : ℕ → Type 0
@@ -29,16 +37,16 @@ numbers (suc k) (x ∷ l) = (x, numbers k l)
 abbrev Lists : Type 0
 Lists = List ℕ × List ℕ × List ℕ × List ℕ
 
-pub tirnavoy_build-Determined : Determined tirnavoy_build.ended tirnavoy_build.Reads.Post
+pub tirnavoy_build-Determined : Determined tirnavoy_build.ended tirnavoy_build_reads.Post
 tirnavoy_build-Determined κs a x y = whole (λ (e : ℕ × List ℕ × List ℕ). (e.0, kept 4 (e.1, (e.2, tt))))
 
-pub tirnavoy_check-Determined : Determined tirnavoy_check.ended tirnavoy_check.Reads.Post
+pub tirnavoy_check-Determined : Determined tirnavoy_check.ended tirnavoy_check_reads.Post
 tirnavoy_check-Determined κs a x y = whole (λ (l : List ℕ). ((numbers 2 l).0, kept 6 (numbers 2 l).1))
 
-pub tirnavoy_nearest-Determined : Determined tirnavoy_nearest.ended tirnavoy_nearest.Reads.Post
+pub tirnavoy_nearest-Determined : Determined tirnavoy_nearest.ended tirnavoy_nearest_reads.Post
 tirnavoy_nearest-Determined κs a x y = whole (λ (e : Lists). ((numbers 6 e.0).0, kept 8 (e.1, (e.2, (e.3, (numbers 6 e.0).1)))))
 
-pub tirnavoy_within-Determined : Determined tirnavoy_within.ended tirnavoy_within.Reads.Post
+pub tirnavoy_within-Determined : Determined tirnavoy_within.ended tirnavoy_within_reads.Post
 tirnavoy_within-Determined κs a x y = whole (λ (e : Lists). ((numbers 6 e.0).0, kept 8 (e.1, (e.2, (e.3, (numbers 6 e.0).1)))))
 
 pub tirnavoy_batch-Determined : DeterminedByHand tirnavoy_batch.ended (λ M 𝓤 𝓛. tirnavoy_batch.clauses 𝓛)
@@ -48,14 +56,14 @@ tirnavoy_batch-Determined = record {
   determined = λ κs a x y. whole (λ (e : BatchEnd). (e.number, kept 8 (e.marks, (e.outcomes, (e.records, tt)))));
 }
 
-pub tirnavoy_verdict-Determined : Determined tirnavoy_verdict.ended tirnavoy_verdict.Reads.Post
+pub tirnavoy_verdict-Determined : Determined tirnavoy_verdict.ended tirnavoy_verdict_reads.Post
 tirnavoy_verdict-Determined κs a x y = whole (λ (e : List ℕ × List ℕ). ((numbers 10 e.0).0, kept 9 (e.1, (numbers 10 e.0).1)))
 
-pub tirnavoy_blackboard-Determined : Determined tirnavoy_blackboard.ended tirnavoy_blackboard.Reads.Post
+pub tirnavoy_blackboard-Determined : Determined tirnavoy_blackboard.ended tirnavoy_blackboard_reads.Post
 tirnavoy_blackboard-Determined κs a x y = whole (λ (l : List ℕ). ((numbers 2 l).0, kept 3 (numbers 2 l).1))
 
-pub tirnavoy_sky_degrees-Determined : Determined tirnavoy_sky_degrees.ended tirnavoy_sky_degrees.Reads.Post
+pub tirnavoy_sky_degrees-Determined : Determined tirnavoy_sky_degrees.ended tirnavoy_sky_degrees_reads.Post
 tirnavoy_sky_degrees-Determined κs a x y = whole (λ (l : List ℕ). ((numbers 3 l).0, kept 2 (numbers 3 l).1))
 
-pub tirnavoy_sky_radians-Determined : Determined tirnavoy_sky_radians.ended tirnavoy_sky_radians.Reads.Post
+pub tirnavoy_sky_radians-Determined : Determined tirnavoy_sky_radians.ended tirnavoy_sky_radians_reads.Post
 tirnavoy_sky_radians-Determined κs a x y = whole (λ (l : List ℕ). ((numbers 3 l).0, kept 2 (numbers 3 l).1))

@@ -2,7 +2,7 @@
 use reading::Session;
 
 // The session after the turn, how many bytes to print, and whether the run ends.
-#[derive(Drop)]
+#[derive(Clone, Copy)]
 pub struct Turned {
     pub next: Session,
     pub written: usize,

@@ -87,7 +87,7 @@ fn query_substring(shape: Shape, query: &[u64], z: usize) -> usize
 }
 
 // Whether a step met a bad bucket, which refuses the search.
-#[derive(Drop)]
+#[derive(Clone, Copy)]
 pub enum Met {
     Clear,
     Refused(Refusal),
@@ -99,7 +99,7 @@ pub const ENTRIES: u32 = 65536;
 pub const NOBODY: u32 = 257 * ENTRIES;
 
 // Of the tested entries the nearest, by its standing and star, and its runner-up, the nearest with another star, by its standing; or NOBODY.
-#[derive(Drop)]
+#[derive(Clone, Copy)]
 pub struct Rivals {
     pub first: u32,
     pub star: u32,
@@ -143,7 +143,7 @@ impl Rivals {
 }
 
 // What a walk is for: the k nearest entries of those within r, or the nearest of two different stars.
-#[derive(Drop)]
+#[derive(Clone, Copy)]
 pub enum Aim {
     Nearest(u32, u32),
     TwoStars,
@@ -154,7 +154,7 @@ const ALL: u32 = ENTRIES + 1;
 
 // What is known of the tested entries: how many they are, and the limit, the worst distance that can still be listed; by the aim, how many are within it, or the nearest and its
 // runner-up.
-#[derive(Drop)]
+#[derive(Clone, Copy)]
 pub struct Seen {
     pub tested: Tested,
     pub limit: u32,
@@ -272,7 +272,7 @@ impl Seen {
 }
 
 // The state of the walk: how many steps were taken, how many buckets they opened, and what is known of the entries that these list.
-#[derive(Drop)]
+#[derive(Clone, Copy)]
 pub struct Walk {
     pub at: u32,
     pub opened: Opened,
