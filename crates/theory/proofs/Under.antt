@@ -1,7 +1,7 @@
 -- The ones that a number has under a mask: digit by digit, and of its complement; a mask's lowest ones are the smallest number that has as many. Assumes nothing.
 use mathlib.Core.Path.{◌≡◌, refl, sym, ap, ap₂, ◌∙◌}
 use mathlib.Core.Logic.{◌⊎◌, inl, inr}
-use Prim.Native.Nat.{ℕ, zero, suc, ◌+◌, ◌-◌, ◌*◌, ◌/◌, ◌%◌, ◌^◌, ◌≤◌, ◌<◌, min}
+use Prim.Native.Nat.{ℕ, zero, suc, ◌+◌, ◌*◌, ◌/◌, ◌%◌, ◌^◌, ◌≤◌, ◌<◌, min}
 use native.Mathlib.Nat.{pow-suc, mod-lt, mod-eq_of_lt}
 use native.Mathlib.Omega.{arith}
 use lib.Arith.{bin_ind}

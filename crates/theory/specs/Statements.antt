@@ -26,7 +26,7 @@ module _ (f : Ended) where
       (κs : Lfts f.signature.lifetimes) (a : Args f.signature κs) (x y : End κs a) → states κs a x.0 (at_exit f κs a x.1)
       → states κs a y.0 (at_exit f κs a y.1) → x ≡ y
 
-  -- of a function that is proved by hand the kit reads the statement as clauses, over any model
+  -- a statement as clauses over any model, which a proof by hand goes by
   abbrev pub Written : Type 2
   Written = (M : Type 1) (𝓤 : Ura M) (𝓛 : Logic 𝓤) → (Memory → SProp 𝓤) → (Routine → Fun 𝓤) → Clauses 𝓤 f
 
