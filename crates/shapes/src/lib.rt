@@ -1,4 +1,6 @@
 // What w and m make of a catalogue, as numbers; and refusals 1 to 3, with which every entry point begins.
+#![tactic(auto)]
+
 ghost use Rattle.std.specs.Prelude.{◌≡◌, true, not, ◌||◌, ◌*◌, ◌/◌, ◌%◌, ◌≤◌, ◌<◌, min, eqb, ltb};
 ghost use Rattle.scope.specs.Refusals.{one_to_three, unless};
 ghost use Rattle.scope.specs.Shape as spec;
