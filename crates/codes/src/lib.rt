@@ -1,4 +1,6 @@
 // Leaves of the searches: distance, substrings and marks over 64-bit words, and zeros in a list.
+#![tactic(auto)]
+
 ghost use Rattle.std.specs.Prelude.{◌≡◌, [], ◌+◌, ◌*◌, ◌≤◌, ◌<◌, length};
 ghost use Rattle.theory.specs.Lists.{over, padded};
 ghost use Rattle.scope.specs.Codes as spec;
