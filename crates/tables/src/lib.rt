@@ -1,4 +1,6 @@
 // The tables of a catalogue: the builder and the check.
+#![tactic(auto)]
+
 ghost use Rattle.std.specs.Prelude.{◌≡◌};
 ghost use Rattle.theory.specs.Lists.{over};
 ghost use Rattle.scope.specs.Tables.{index, built_starts, built_ids, sound};
