@@ -1,4 +1,6 @@
 // The numbers with r ones under a mask, ascending: the first of them, and from one straight to the next.
+#![tactic(auto)]
+
 ghost use Rattle.std.specs.Prelude.{◌≡◌, ◌+◌, ◌≤◌, ◌<◌};
 ghost use Rattle.std.specs.Int.Bits.{bit_and};
 ghost use Rattle.std.specs.Int.Count.{ones};
