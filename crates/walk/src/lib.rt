@@ -1,4 +1,6 @@
 // The walk: the steps that open buckets, in order, and test the entries that these list. Steps serve the searches only.
+#![tactic(auto)]
+
 ghost use Rattle.std.specs.Prelude.{◌≡◌, true, false, not, ◌||◌, [], ◌∷◌, ℕ, ◌+◌, ◌*◌, ◌≤◌, ◌<◌, eqb, ltb, leb, length, get_or};
 ghost use Rattle.theory.specs.Lists.{has};
 ghost use Rattle.scope.specs.Codes.{code_of, substring};
@@ -253,7 +255,7 @@ impl Seen {
     ) -> Seen
         requires asked { Asked (asks shape stars.now codes.now starts.now ids.now query.now) }
         requires z_bound { (z < m shape) × (v < size shape z) }
-        requires v_value { tables.bad (index shape stars.now codes.now starts.now ids.now) z v ≡ false }
+        requires not_bad { tables.bad (index shape stars.now codes.now starts.now ids.now) z v ≡ false }
         requires counted { Counted aim (λ (j : ℕ). get_or stars.now j 0) (distance_from shape.w codes.now query.now) (mark_words (length stars.now)) self marks.old tally.old }
         ensures { Tests aim (λ (j : ℕ). get_or stars.now j 0) (distance_from shape.w codes.now query.now) (mark_words (length stars.now)) (λ (i : ℕ). has i (tables.bucket (index shape stars.now codes.now starts.now ids.now) z v)) result marks.old marks.new tally.new }
     {
