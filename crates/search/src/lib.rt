@@ -1,4 +1,6 @@
 // The searches: the k nearest, all within a radius, and the verdict on the nearest and its runner-up.
+#![tactic(auto)]
+
 ghost use Rattle.std.specs.Prelude.{◌≡◌, [], ◌∷◌, ℕ, min, max, ◌≤◌, length, get_or};
 ghost use Rattle.theory.specs.Lists.{tab, over, padded};
 ghost use Rattle.scope.specs.Shape.{q};
