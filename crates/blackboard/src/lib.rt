@@ -1,4 +1,6 @@
 // The blackboard's count: how many buckets are open after a step, by the formula, with no catalogue at hand.
+#![tactic(auto)]
+
 ghost use Rattle.std.specs.Prelude.{◌≡◌, true, ◌≤◌, ◌<◌};
 ghost use Rattle.scope.specs.Shape.{q, listed, m};
 ghost use Rattle.scope.specs.Walk.{open_in, open_after};
