@@ -15,7 +15,6 @@ use Rattle.theory.proofs.Tests.{max_is_or, either, one_if}
 use Rattle.theory.proofs.Lists.{has-suc}
 use Rattle.theory.proofs.Digits.{digit, digit_or, digit_power, same_digits}
 use Rattle.scope.specs.declared.Unit.{Unit}
-use Rattle.scope.specs.declared.Sky.{Sky}
 use Rattle.scope.specs.declared.Sky.TheVariants as sky
 use Rattle.scope.specs.Codes.{bit}
 use Rattle.scope.specs.Sky.{cell_at, code_from}

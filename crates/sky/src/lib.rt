@@ -1,4 +1,6 @@
 // From sky to code: offsets of stars, across and up, become the 64 bits of a pattern code.
+#![tactic(auto)]
+
 ghost use Rattle.std.specs.Prelude.{true, ◌≡◌};
 ghost use Rattle.scope.specs.Sky.{angle_of, finite, in_field};
 ghost use Rattle.scope.specs.Sky.{given as Sky·given, degrees as Sky·degrees, column as Sky·column};

@@ -1,11 +1,11 @@
 -- `sky::star` meets its contract: the place of across goes first, then that of up. Assumes nothing.
+use borrow.Author.Rules.{rules}
 use mathlib.Core.Path.{◌≡◌, refl, sym, ap, ◌∙◌}
 use mathlib.Core.List.{[], ◌∷◌}
 use Prim.Native.Nat.{ℕ, ◌+◌, ◌*◌}
 use native.Mathlib.Omega.{arith}
 use types.Run.{OneOf, miss}
 use denote.Enum.Declared.{tag_of}
-use borrow.Author.Rules.{rules}
 use Rattle.scope.specs.declared.Angle.{Angle}
 use Rattle.scope.specs.Sky.{degrees, column}
 use Rattle.sky.specs.declared.Place.{Place}
@@ -13,8 +13,8 @@ use Rattle.sky.specs.declared.Place.TheVariants.{At, Refused}
 use Rattle.sky.specs.Place.{place_of, star_of}
 use Rattle.sky.specs.contracts.Place.{the_type}
 use Rattle.sky.proofs.Places.{onward, place_is, star_is}
-use Rattle.sky.proofs.star.Statement.{statement}
-use Rattle.sky.proofs.star.Tie as tie
+use Rattle.sky.proofs.star.Goals as goal
+use Rattle.sky.proofs.star.Goals.{In-At, In-At-up}
 
 -- a place that is not in the field is the answer
 stays : (p : Place) → OneOf (1 ∷ []) (tag_of the_type p) → (next : Place) → p ≡ onward p Refused next
@@ -33,68 +33,33 @@ both_at k a b x y d e =
     rw (star_is k a b, d, e) (ap At cell)
 
 -- the column, and then the row, in the words of the definitions
-column-at : (c : tie.After-known-told) → let s = c.before.before.before.before.args in place_of s.k s.across ≡ At c.before.across.given.0.0
+column-at : (c : In-At) → let s = c.args in place_of s.k s.across ≡ At c.in-At.column
 column-at c =
-    let at-place-of : tie.After-place-of = search in
-    sym at-place-of.place_of.ensures ∙ c.before.across.given.1
+    sym c.place_of-across.ensures ∙ c.in-At.is
 
-row_at : (c : tie.After-known-told2)
-    → let s = c.before.before.before.before.before.before.before.before.args in place_of s.k s.up ≡ At c.before.up.given.0.0
-row_at c = sym c.before.before.before.place-of2.ensures ∙ c.before.up.given.1
+row_at : (c : In-At-up)
+    → let s = c.args in place_of s.k s.up ≡ At c.in-At-up.row
+row_at c = sym c.place_of-up.ensures ∙ c.in-At-up.is
 
-place-of-requires : tie.Need-place-of-requires
-place-of-requires c κs = search rules
+pub returns-in_default : goal.returns-in_default
+returns-in_default c = first-refused _ _ _ _ c.place_of-across.ensures (search rules)
 
-enum-known-across : tie.Need-enum-known-across
-enum-known-across c = search rules
+pub returns-in_default-up : goal.returns-in_default-up
+returns-in_default-up c =
+    let at-At : In-At = search in
+    then-refused _ _ _ _ _ (column-at at-At) c.place_of-up.ensures (search rules)
 
-enum_told : tie.Need-enum-told
-enum_told c = search rules
-
-returns : tie.Need-returns
-returns c = first-refused _ _ _ _ c.before.before.place_of.ensures c.before.match.keys2
-
-place-of-requires-2 : tie.Need-place-of-requires-2
-place-of-requires-2 c κs = search rules
-
-enum-known-up : tie.Need-enum-known-up
-enum-known-up c = search rules
-
-enum-told-2 : tie.Need-enum-told-2
-enum-told-2 c = search rules
-
-returns-2 : tie.Need-returns-2
-returns-2 c =
-    let f = c.before.before in
-    then-refused _ _ _ _ _ (column-at f.before) f.place-of2.ensures c.before.match2.keys2
-
-mul-t8 : tie.Need-overflow-mul-t8
-mul-t8 c =
-    let at-known-told : tie.After-known-told = search in
+pub overflow_mul-result : goal.overflow_mul-result
+overflow_mul-result c =
+    let at-known-told : In-At = search in
     omega (arith, place_is _ _ _ (column-at at-known-told), place_is _ _ _ (row_at c))
 
-add-t9 : tie.Need-overflow-add-t9
-add-t9 c =
-    let at-known-told : tie.After-known-told = search in
+pub overflow_add-result : goal.overflow_add-result
+overflow_add-result c =
+    let at-known-told : In-At = search in
     omega (arith, place_is _ _ _ (column-at at-known-told), place_is _ _ _ (row_at c))
 
-returns-3 : tie.Need-returns-3
-returns-3 c =
-    let at-known-told : tie.After-known-told = search in
+pub returns : goal.returns
+returns c =
+    let at-known-told : In-At = search in
     both_at _ _ _ _ _ (column-at at-known-told) (row_at c)
-
-pub star-spec : {M : Type 1} → statement M
-star-spec =
-    tie.close
-    (tie.spec
-    place-of-requires
-    enum-known-across
-    enum_told
-    returns
-    place-of-requires-2
-    enum-known-up
-    enum-told-2
-    returns-2
-    mul-t8
-    add-t9
-    returns-3)

@@ -3,8 +3,7 @@ use mathlib.Core.Path.{◌≡◌}
 use mathlib.Core.Bool.{true, false}
 use lib.Ieee.{Float, of_bits, neg, of_int, lt, le}
 use Rattle.scope.specs.Sky.{edge, in_field}
-use Rattle.sky.proofs.in_field.Statement.{statement}
-use Rattle.sky.proofs.in_field.Tie as tie
+use Rattle.sky.proofs.in_field.Goals as goal
 
 above : (d : Float) → le (edge 0) d ≡ true → lt d (edge 8) ≡ in_field d
 unfolding in_field
@@ -14,13 +13,10 @@ below : (d : Float) → le (edge 0) d ≡ false → le (edge 0) d ≡ in_field d
 unfolding in_field
 below d h = rw h
 
-returns : tie.Need-returns
+pub returns-then-d : goal.returns-then-d
 unfolding edge of_bits neg of_int
-returns c = above c.before.args.d c.if1.true
+returns-then-d c = above c.args.d c.if-d.true
 
-returns-2 : tie.Need-returns-2
+pub returns-else-d : goal.returns-else-d
 unfolding edge of_bits neg of_int
-returns-2 c = below c.before.args.d c.if1.false
-
-pub in-field-spec : {M : Type 1} → statement M
-in-field-spec = tie.close (tie.spec returns returns-2)
+returns-else-d c = below c.args.d c.if-d.false

@@ -3,8 +3,7 @@ use mathlib.Core.Path.{◌≡◌, refl, sym}
 use mathlib.Core.Bool.{true, false}
 use lib.Ieee.{Float, nan, inf, fin, of_bits, div, neg, lt}
 use Rattle.scope.specs.Sky.{finite}
-use Rattle.sky.proofs.is_finite.Statement.{statement}
-use Rattle.sky.proofs.is_finite.Tie as tie
+use Rattle.sky.proofs.is_finite.Goals as goal
 
 above : (x : Float) → lt (inf true) x ≡ true → lt x (inf false) ≡ finite x
 unfolding lt finite
@@ -20,13 +19,10 @@ below (inf true) h = refl
 below (inf false) h = h
 below (fin s m e) h = refl
 
-returns : tie.Need-returns
+pub returns-then-infinity-x : goal.returns-then-infinity-x
 unfolding of_bits div neg
-returns c = above _ c.if1.true
+returns-then-infinity-x c = above _ c.if-infinity-x.true
 
-returns-2 : tie.Need-returns-2
+pub returns-else-infinity-x : goal.returns-else-infinity-x
 unfolding of_bits div neg
-returns-2 c = below _ c.if1.false
-
-pub is-finite-spec : {M : Type 1} → statement M
-is-finite-spec = tie.close (tie.spec returns returns-2)
+returns-else-infinity-x c = below _ c.if-infinity-x.false
