@@ -3,13 +3,11 @@
 use Prim.Native.Nat.{ℕ, ◌/◌, ◌%◌}
 use mathlib.Core.Path.{◌≡◌}
 use mathlib.Core.Bool.{Bool, true, false, not, ◌&&◌}
-use mathlib.Core.Logic.{⊎_elim}
 use lib.Dec.{T, eqb}
 use lib.Ieee.{nan, binary64, of_bits, of_fields, nan_bits, div}
-use borrow.Author.Rules.{rules}
 use borrow.Author.Tests.{eq-eqb, ne_eqb}
-use Rattle.reading.proofs.float_of.Statement.{statement}
-use Rattle.reading.proofs.float_of.Tie as tie
+use Rattle.reading.proofs.float_of.Goals as goal
+use Rattle.reading.proofs.float_of.Goals.{then-exponent-eq2047+else-digits-ne0, else-exponent-eq2047}
 
 all_ones : (s : Bool) (x t : ℕ) → x ≡ 2047 → (t ≡ 0 → ⊥) → nan ≡ of_fields binary64 s x t
 unfolding of_fields
@@ -25,19 +23,16 @@ no-digits x t e = rw (eq-eqb t 0 e) (and-false (eqb x 2047))
 no_ones : (x t : ℕ) → (x ≡ 2047 → ⊥) → T (not (eqb x 2047 && not (eqb t 0)))
 no_ones x t h = rw (ne_eqb x 2047 h) tt
 
-returns : tie.Need-returns
+pub returns-then-digits-ne0 : goal.returns-then-digits-ne0
 unfolding of_bits div
-returns c = all_ones _ _ _ c.before.if1.true c.if2.true
+returns-then-digits-ne0 c = all_ones _ _ _ c.if-exponent-eq2047.true c.if-digits-ne0.true
 
-float-from-bits-result : tie.Need-float-from-bits-result
+pub float_from_bits-result : goal.float_from_bits-result
 unfolding nan_bits
-float-from-bits-result c =
-    let b = c.before.args.bits in
+float_from_bits-result c =
+    let b = c.args.bits in
     let x = b % 9223372036854775808 / 4503599627370496 in
-    ⊎_elim (λ w. no-digits x _ w.1.left) (λ w. no_ones _ (b % 4503599627370496) w.left) c.if1.branch
-
-returns-2 : tie.Need-returns-2
-returns-2 c = search rules
-
-pub float-of-spec : {M : Type 1} → statement M
-float-of-spec = tie.close (tie.spec returns float-from-bits-result returns-2)
+    elim c.if-exponent-eq2047.branch [
+      | then-exponent-eq2047+else-digits-ne0 w ↦ no-digits x _ w.if-digits-ne0.false
+      | else-exponent-eq2047 w ↦ no_ones _ (b % 4503599627370496) w.if-exponent-eq2047.false
+    ]
