@@ -76,7 +76,7 @@ answers_of (found.Refused why) = 0
 abbrev pub found_lines : List ℕ → ℕ → Found → List ℕ → List ℕ → List ℕ → List ℕ
 found_lines word number (found.Listed report) stars entries distances =
     counts_line word number report ++ answer_lines stars entries distances report.answers
-found_lines word number (found.Refused why) stars entries distances = refused_line number why
+found_lines word number (found.Refused why) _ entries distances = refused_line number why
 
 -- `match` star distance; `unsure` star star distance distance; `none`
 abbrev pub verdict_line : ℕ → Verdict → List ℕ

@@ -1,4 +1,6 @@
 // A session's lines, from answers to bytes. Each function writes from a place of the lent list on, and returns the place after.
+#![tactic(auto)]
+
 ghost use Rattle.std.specs.Prelude.{◌≡◌, ◌+◌, ◌*◌, ◌≤◌, ◌<◌, length, get_or};
 ghost use Rattle.lines.specs.Text.{decimal, hex, digit};
 ghost use Rattle.lines.specs.Lines.{stars_line, bad_line, refused_line, counts_line, answer_line, answer_lines, verdict_line, answers_of, found_lines, judged_line, sky_line};
@@ -37,8 +39,8 @@ pub fn put_found(
     entries: &[u32],
     distances: &[u32],
 ) -> usize
-    requires word_len_bound { (length word.now ≤ 8) × (answers_of found ≤ length entries.now) × (answers_of found ≤ length distances.now) }
-    requires found_in_bounds { at + 128 + 33 * answers_of found ≤ length out.old }
+    requires lists_hold { (length word.now ≤ 8) × (answers_of found ≤ length entries.now) × (answers_of found ≤ length distances.now) }
+    requires room { at + 128 + 33 * answers_of found ≤ length out.old }
     ensures { Put (64 + 33 * answers_of found) out.old at (found_lines word.now number found stars.now entries.now distances.now) out.new result }
 {
     match found {

@@ -1,0 +1,5 @@
+-- `lines::put_hex` meets its contract. Assumes nothing.
+use Rattle.lines.proofs.+put_hex.Given as goal
+
+abbrev pub decreases-put_hex : goal.decreases-put_hex
+decreases-put_hex l = l.k
