@@ -13,7 +13,7 @@ use Rattle.lines.specs.Lines.{bad_line}
 use Rattle.transcript.specs.declared.Turned.{Turned}
 use Rattle.reading.specs.State.{number_of, next_of}
 use Rattle.transcript.specs.Opening.{opening, ending}
-use Rattle.transcript.specs.Questions.{shape_of, Lists, lists, Reply, reply}
+use Rattle.transcript.specs.Questions.{shape_of, Lists, Reply, reply}
 use Rattle.transcript.specs.Transcript.{fresh}
 
 -- the lists of a session: the entries' stars and codes, the tables, and those lent to the searches
