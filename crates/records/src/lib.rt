@@ -1,4 +1,6 @@
 // One turn of a session: what it knows and one record in, what it knows next and the text out. No input and no output.
+#![tactic(auto)]
+
 ghost use Rattle.std.specs.Prelude.{◌≡◌, true, false, cond, ◌+◌, ◌*◌, ◌≤◌, ◌<◌, eqb, length, take, set};
 ghost use Rattle.lines.specs.Lines.{near, sky_line};
 ghost use Rattle.lines.specs.Lines.{within as Lines·within};
