@@ -2,10 +2,11 @@
 use mathlib.Core.Path.{refl}
 use mathlib.Core.List.{List}
 use Prim.Native.Nat.{ℕ}
-use Rattle.theory.specs.Statements.{DeterminedByHand}
+use Rattle.theory.specs.Statements.{Determined, DeterminedByHand}
 use Rattle.theory.proofs.Statements.{whole, kept}
 use Rattle.scope.specs.Batch.{BatchEnd}
-use Rattle.batch.specs.contracts.fill
+use Rattle.batch.specs.contracts.fill as fill
+use Rattle.batch.proofs.fill.Reads as fill_reads
 
 pub fill-Determined : DeterminedByHand fill.ended (λ M 𝓤 𝓛. fill.clauses 𝓛)
 fill-Determined = record {
@@ -13,3 +14,7 @@ fill-Determined = record {
   says = λ M 𝓤 𝓛 mem run κs a g r e. refl;
   determined = λ κs a x y. whole (λ (e : BatchEnd × List ℕ × List ℕ). (e.0.number, kept 8 (e.0.marks, (e.0.outcomes, (e.1, (e.2, (e.0.records, tt)))))));
 }
+
+pub fill_read-Determined : Determined fill.ended fill_reads.Post
+unfolding fill-Determined
+fill_read-Determined κs a x y = fill-Determined.determined κs a x y

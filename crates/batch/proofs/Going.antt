@@ -199,6 +199,10 @@ before c e₀ d₀ at m o e d us ys i =
           (lt-or-le 0 at);
     }
 
+-- a place is one of the records
+pub within : (c : Handed) (e₀ d₀ : List ℕ) (at : ℕ) (m o e d : List ℕ) (us ys : List Answer) → Inv c e₀ d₀ at m o e d us ys → at < total c → at < length us
+within c e₀ d₀ at m o e d us ys i l = let fit = places_fit c in let room = i.room in let long = i.long in omega arith
+
 -- ---- with k = 0 nothing is asked
 
 zeros_are : (q : ℕ) → cat (λ _. 0 ∷ 0 ∷ 0 ∷ 0 ∷ []) q ≡ padded (4 * q) []
@@ -245,6 +249,13 @@ module _ (c : Handed) (e₀ d₀ : List ℕ) (at : ℕ) (m o e d m' o' e' d' : L
 
   pub more_no : at ≡ total c → r.more ≡ 0
   more_no b = ap (λ (z : Step). z.more) (stops b)
+
+  -- a turn that gives a record is at a place, and the turn that gives none is behind the last
+  pub inside : (r.more ≡ 0 → ⊥) → at < total c
+  inside ne = ⊎_elim (λ (l : at < total c). l) (λ (g : total c ≤ at). absurd (ne (more_no (let w = i.within in omega arith)))) (lt-or-le at (total c))
+
+  pub past : r.more ≡ 0 → at ≡ total c
+  past z = ⊎_elim (λ (l : at < total c). absurd (let y = more_yes l in omega arith)) (λ (g : total c ≤ at). let w = i.within in omega arith) (lt-or-le at (total c))
 
   -- the marks, where nothing is refused
   marks_are : batch_number c ≡ 0 → m' ≡ cleared c

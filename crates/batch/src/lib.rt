@@ -1,4 +1,6 @@
 // A table of students at once: up to 256 queries in one call, each answered as a single call answers it. The records are filled place by place; at the first place of a query's part its search is made.
+#![tactic(auto)]
+
 ghost use Rattle.std.specs.Prelude.{◌≡◌, ◌<◌, length};
 ghost use Rattle.scope.specs.Codes.{code_of};
 ghost use Rattle.scope.specs.Shape.{shape};
@@ -289,7 +291,7 @@ fn next<'s, 'm>(
     )
 }
 
-// The k nearest entries to each of the queries. The two scratch lists take one query's answers at a time. Proved by hand, since it is lent a list of structs: it only lends, calls and stores.
+// The k nearest entries to each of the queries. The two scratch lists take one query's answers at a time. It only lends, calls and stores.
 pub fn fill<'s, 'm, 'o, 'e, 'd, 'r>(
     w: u32,
     m: u32,
