@@ -14,7 +14,8 @@ use Rattle.tirnavoy.specs.contracts.tirnavoy_nearest as tirnavoy_nearest
 use Rattle.tirnavoy.proofs.tirnavoy_nearest.Reads as tirnavoy_nearest_reads
 use Rattle.tirnavoy.specs.contracts.tirnavoy_within as tirnavoy_within
 use Rattle.tirnavoy.proofs.tirnavoy_within.Reads as tirnavoy_within_reads
-use Rattle.tirnavoy.specs.contracts.tirnavoy_batch
+use Rattle.tirnavoy.specs.contracts.tirnavoy_batch as tirnavoy_batch
+use Rattle.tirnavoy.proofs.tirnavoy_batch.Reads as tirnavoy_batch_reads
 use Rattle.tirnavoy.specs.contracts.tirnavoy_verdict as tirnavoy_verdict
 use Rattle.tirnavoy.proofs.tirnavoy_verdict.Reads as tirnavoy_verdict_reads
 use Rattle.tirnavoy.specs.contracts.tirnavoy_blackboard as tirnavoy_blackboard
@@ -55,6 +56,10 @@ tirnavoy_batch-Determined = record {
   says = λ M 𝓤 𝓛 mem run κs a g r e. refl;
   determined = λ κs a x y. whole (λ (e : BatchEnd). (e.number, kept 8 (e.marks, (e.outcomes, (e.records, tt)))));
 }
+
+pub tirnavoy_batch_read-Determined : Determined tirnavoy_batch.ended tirnavoy_batch_reads.Post
+unfolding tirnavoy_batch-Determined
+tirnavoy_batch_read-Determined κs a x y = tirnavoy_batch-Determined.determined κs a x y
 
 pub tirnavoy_verdict-Determined : Determined tirnavoy_verdict.ended tirnavoy_verdict_reads.Post
 tirnavoy_verdict-Determined κs a x y = whole (λ (e : List ℕ × List ℕ). ((numbers 10 e.0).0, kept 9 (e.1, (numbers 10 e.0).1)))

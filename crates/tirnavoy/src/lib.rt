@@ -1,4 +1,6 @@
 // The library for C: plain numbers and lists in, a refusal's number back, everything else through the outs.
+#![tactic(auto)]
+
 ghost use Rattle.std.specs.Prelude.{◌≡◌, [], ◌∷◌, length};
 ghost use Rattle.scope.specs.Batch.{batch, fills, batch_end};
 ghost use Rattle.scope.specs.Calls.{asked, build_end, check_answer, nearest_end, within_end, verdict_end, blackboard_answer, sky_answer};
