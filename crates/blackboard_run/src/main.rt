@@ -1,55 +1,57 @@
 // Prints the blackboard's count: steps of catalogue A, the last step of each shape, and refused calls.
+#![tactic(auto)]
+
 ghost use Rattle.std.specs.Prelude.{◌≤◌};
 
-use libc::STDOUT_FILENO;
 use scope::{Blackboard, Shape};
+use std::io;
 
-fn print(label: &[u8], n: u32) {
-    io::write_all(STDOUT_FILENO, label);
-    io::print_decimal(STDOUT_FILENO, n as u64);
+fn print(rt: &impl Print, label: &[u8], n: u32) -> io::Result<()> {
+    rt.write_all(label)?;
+    print!(rt; "{n}")
 }
 
 // A line for one call: what it is asked, and what it answers.
-fn ask(w: u32, m: u32, step: u32) {
-    print(b"w ", w);
-    print(b" m ", m);
-    print(b" step ", step);
+fn ask(rt: &impl Print, w: u32, m: u32, step: u32) -> io::Result<()> {
+    print(rt, b"w ", w)?;
+    print(rt, b" m ", m)?;
+    print(rt, b" step ", step)?;
     let shape = Shape { w: w, m: m };
     match blackboard::count(shape, step) {
-        Blackboard::Buckets(opened) => print(b": ", opened.0),
-        Blackboard::Refused(refusal) => print(b": refused ", refusal.number()),
+        Blackboard::Buckets(opened) => print(rt, b": ", opened.0)?,
+        Blackboard::Refused(refusal) => print(rt, b": refused ", refusal.number())?,
     }
-    io::write_all(STDOUT_FILENO, b"\n");
+    rt.write_all(b"\n")
 }
 
 // The last step of the shapes with codes of w words, q bits.
-fn last_steps(w: u32, q: u32)
+fn last_steps(rt: &impl Print, w: u32, q: u32) -> io::Result<()>
     requires { w ≤ 4 }
 {
-    ask(w, 16 * w, q);
-    ask(w, 8 * w, q);
-    ask(w, 4 * w, q);
+    ask(rt, w, 16 * w, q)?;
+    ask(rt, w, 8 * w, q)?;
+    ask(rt, w, 4 * w, q)
 }
 
-fn main() {
-    ask(1, 8, 0);
-    ask(1, 8, 1);
-    ask(1, 8, 2);
-    ask(1, 8, 8);
-    ask(1, 8, 62);
-    ask(1, 8, 64);
-    last_steps(1, 64);
-    last_steps(2, 128);
-    last_steps(4, 256);
-    ask(2, 11, 0);
-    ask(2, 11, 10);
-    ask(2, 11, 17);
-    ask(2, 11, 18);
-    ask(2, 11, 128);
-    ask(4, 63, 256);
-    ask(1, 8, 65);
-    ask(3, 24, 0);
-    ask(1, 3, 0);
-    ask(1, 17, 0);
-    ask(1, 8, 4294967295);
+fn main(rt: HostRuntime) -> io::Result<()> {
+    ask(&rt, 1, 8, 0)?;
+    ask(&rt, 1, 8, 1)?;
+    ask(&rt, 1, 8, 2)?;
+    ask(&rt, 1, 8, 8)?;
+    ask(&rt, 1, 8, 62)?;
+    ask(&rt, 1, 8, 64)?;
+    last_steps(&rt, 1, 64)?;
+    last_steps(&rt, 2, 128)?;
+    last_steps(&rt, 4, 256)?;
+    ask(&rt, 2, 11, 0)?;
+    ask(&rt, 2, 11, 10)?;
+    ask(&rt, 2, 11, 17)?;
+    ask(&rt, 2, 11, 18)?;
+    ask(&rt, 2, 11, 128)?;
+    ask(&rt, 4, 63, 256)?;
+    ask(&rt, 1, 8, 65)?;
+    ask(&rt, 3, 24, 0)?;
+    ask(&rt, 1, 3, 0)?;
+    ask(&rt, 1, 17, 0)?;
+    ask(&rt, 1, 8, 4294967295)
 }
