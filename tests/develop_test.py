@@ -15,7 +15,7 @@ DRAWN = """
         2  high                               0  middle
 """
 SPEC = """-- A comment. Assumes nothing.
-use Prim.Native.Nat.{ℕ, _+_}
+use Rattle.std.specs.Prelude.{ℕ, ◌+◌}
 
 abbrev pub stays : ℕ → ℕ
 stays k = k
@@ -31,7 +31,10 @@ module _ (k : ℕ) where
   abbrev pub inside : ℕ
   inside = k
 """
-SOURCE = """pub enum Kind {
+SOURCE = """ghost use Rattle.std.specs.Prelude.{◌≡◌};
+
+#[derive(Clone, Copy)]
+pub enum Kind {
     One,
 }
 
@@ -40,7 +43,7 @@ pub struct Pair(u32, u32);
 impl Pair {
     // its first
     pub fn first(self) -> u32
-        ensures { λ r. ⌜ r ≡ self .0 ⌝ }
+        ensures { result ≡ self.0 }
     {
         self.0
     }
@@ -59,24 +62,28 @@ helper : ℕ
 helper = 0
 """
 BEFORE = {
-    "crates.txt": "# each crate uses only those above it\nlow:\nmiddle: low io\nhigh: middle low\n",
+    "crates.txt": "# each crate uses only those above it\nlow:\nmiddle: low io\nhigh staticlib: middle low\n",
     "docs/DEVELOP.md": PAGE,
     "docs/PROVED.md": "`a-theorem` (Laws)\n",
     "crates/low/specs/Defs.antt": SPEC,
     "crates/low/src/lib.rt": SOURCE,
     "crates/low/proofs/Laws.antt": LAW,
-    "crates/low/proofs/plain/Proof.antt": "use x\nplain-spec : T\nplain-spec = a\n",
+    "crates/low/proofs/plain/Answers.antt": "use x\npub returns : T\nreturns c = a\n",
+    "crates/low/proofs/plain/Invariants.antt": "use x\npub measure : T\nmeasure = a\n",
+    "crates/low/proofs/Pair/first/Answers.antt": "use x\npub returns : T\nreturns c = a\n",
     "crates/low/must-fail/wrong.edit": "old: a\n",
 }
 # comments, layout and imports change too, which does not count
 AFTER = {
-    "crates/low/specs/Defs.antt": SPEC.replace("-- A comment", "-- Another").replace("_+_}", "_+_, _*_}").replace("k + 1", "k + 2").replace("  pub record Goes : Type 0 where\n    pub field : ℕ\n", "")
+    "crates/low/specs/Defs.antt": SPEC.replace("-- A comment", "-- Another").replace("◌+◌}", "◌+◌, ◌*◌}").replace("k + 1", "k + 2").replace("  pub record Goes : Type 0 where\n    pub field : ℕ\n", "")
     .replace("abbrev pub stays : ℕ → ℕ\nstays k = k\n", ""),
     "crates/low/specs/Other.antt": "abbrev pub stays : ℕ → ℕ\nstays k =\n    k\n\nabbrev pub comes : ℕ\ncomes = 3\n",
-    "crates/low/src/lib.rt": SOURCE.replace("self .0 ⌝", "self .1 ⌝").replace("    x\n", "    x + 0\n").replace("One,", "One,\n    Two,"),
+    "crates/low/src/lib.rt": SOURCE.replace("≡ self.0", "≡ self.1").replace("    x\n", "    x + 0\n").replace("One,", "One,\n    Two,"),
     "crates/low/proofs/Laws.antt": LAW.replace("refl", "search"),
-    "crates/low/proofs/plain/Proof.antt": "use y\nplain-spec : T\nplain-spec = a\n",
+    "crates/low/proofs/plain/Answers.antt": "use y\npub returns : T\nreturns c = a\n",
+    "crates/low/proofs/Pair/first/Answers.antt": "use x\npub returns : T\nreturns c = b\n",
     "crates/low/must-fail/worse.edit": "old: b\n",
+    "crates/low/out/rlib/lang/antt/Laws.antt": LAW.replace("a-theorem", "what-rt-makes"),
 }
 NOTE = [
     "- Definitions and types moved (2): low/Defs: `moves`; low/lib: `Kind` (why: ..)",
@@ -87,13 +94,15 @@ NOTE = [
     "- Contracts that stayed: 2.",
     "- Theorems named in docs/PROVED.md that stayed: 1.",
     "- Must-fail edits new (1): `low/worse`",
+    "- Functions' proofs moved (1): `low::Pair::first` (why: ..)",
     "- Functions' proofs that stayed: 1.",
     "- Laws moved (1): low/Laws: `a-theorem` (why: ..)",
     "- Laws that stayed: 1.",
     "- Code of the 3 functions that are in both: 1 changed: `low::plain`.",
     "From nothing, before and after: `low` 3 to 5 s; the other 1 crates 7 to 7 s; the whole `rt ci` 61 to .. s.",
-    "<!-- for the table in README.md: | [..](..) | +1 | 2/1 | 1/0 | 61/.. s | -->",
+    "<!-- for the table in README.md: | [..](..) | +1 | 2/1 | 2/0 | 61/.. s | -->",
 ]
+WHOLE = "rt: low proved\nrt: high proved\nrt: ok; handles allowed: none; every proof and must-fail edit was done in this run\n2 passed, 0 failed\nreal\t1m1.2s\n"
 cases, failed = 0, []
 
 
@@ -119,11 +128,18 @@ def refused(top, sentence, tool, *words):
     expect(answer.returncode != 0 and sentence in answer.stderr and "Traceback" not in answer.stderr, f"{tool} {' '.join(words)}: {answer.stderr!r}, expected {sentence!r}")
 
 
+def alone(name, seconds, *kept):
+    """what `time rt ci NAME` prints"""
+    lines = [f"rt: {crate} is kept: an earlier run on this machine proved the same files over the same libraries" for crate in kept]
+    lines += [f"rt: {name} proved"] * (name not in kept)
+    return "\n".join([*lines, f"rt: {name} and the crates below passed, and that is kept. This is not the gate: run rt ci with no names", f"real\t0m{seconds}.2s\n"])
+
+
 def crates(top):
     refused(top, "is not what crates.txt says", "crates", "--check")
     expect(run(top, "crates").returncode == 0 and DRAWN in (top / "docs/DEVELOP.md").read_text(encoding="utf-8"), "the graph")
     expect(run(top, "crates", "--check").returncode == 0, "a page that is up to date")
-    for line, sentence in {"more: high": "is not what", "more: most": "line 5: more uses most, which is neither", "low:": "line 5: low is listed twice", "more": "line 5: expected NAME"}.items():
+    for line, sentence in {"more: high": "is not what", "more: most": "line 5: more uses most, which is neither", "low:": "line 5: low is listed twice", "more": "line 5: expected NAME", "more static: low": "line 5: expected NAME"}.items():
         (top / "crates.txt").write_text(BEFORE["crates.txt"] + line + "\n", encoding="utf-8")
         refused(top, sentence, "crates", "--check")
     write(top, {"crates.txt": BEFORE["crates.txt"], "docs/DEVELOP.md": "no marks\n"})
@@ -133,7 +149,7 @@ def crates(top):
 
 def landing(top):
     write(top, AFTER)
-    write(top, {"old.log": "rt: low proved (3 s)\nrt: high proved (7 s)\nreal\t1m1.2s\n", "new.log": "rt: low proved (5 s)\nrt: high proved (7 s)\n", "stale.log": "rt: low proved (unchanged since it was last proved)\n"})
+    write(top, {"old.log": alone("low", 3) + alone("high", 7, "low") + WHOLE, "new.log": alone("low", 5) + alone("high", 7, "low"), "stale.log": alone("low", 3, "low"), "whole.log": WHOLE})
     logs = [str(top / name) for name in ("old.log", "new.log", "stale.log")]
     note = run(top, "landing", "HEAD", "--before", logs[0], "--after", logs[1]).stdout
     for line in NOTE:
@@ -143,6 +159,8 @@ def landing(top):
     refused(top, "required: BASE", "landing")
     refused(top, "come together", "landing", "HEAD", "--before", logs[0])
     refused(top, "is not from nothing", "landing", "HEAD", "--before", logs[2], "--after", logs[1])
+    whole = run(top, "landing", "HEAD", "--before", str(top / "whole.log"), "--after", logs[0]).stdout
+    expect("From nothing, before and after: `low` .. to 3 s; the other 1 crates .. to 7 s; the whole `rt ci` 61 to 61 s." in whole.splitlines(), "a log of the whole alone")
     refused(top, "No such file", "landing", "HEAD", "--before", logs[0], "--after", str(top / "none.log"))
 
 

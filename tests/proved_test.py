@@ -9,7 +9,8 @@ What counts as a name:
 - Name.antt is a file of some crate; a crate's name is that crate;
 - in a table, any other word in backquotes is a definition or a theorem of an antt file, or a function or a type of a Rattle file. Where a column's head is one of NAMING, it is declared in
   one of the files that its row names ('there': that the row above names), if there are any; in other columns, in any file of crates/;
-- outside tables only words with a hyphen or an inner capital count as such names: others may be a keyword, or what a program prints.
+- outside tables only words with a hyphen, an underscore or an inner capital count as such names: others may be a keyword, or what a program prints.
+What rt makes in crates/*/out is no file of a crate.
 A code with a space in it is an expression or a command, and is not looked at."""
 import pathlib
 import re
@@ -31,7 +32,12 @@ def declared(path):
     return {a or b for a, b in ANTT.findall(text)}
 
 
-NAMES = {path: declared(path) for path in TOP.glob("crates/**/*") if path.suffix in (".rt", ".antt")}
+def own(paths):
+    """the paths that are not in a crate's out/"""
+    return [path for path in paths if path.relative_to(TOP).parts[2:3] != ("out",)]
+
+
+NAMES = {path: declared(path) for path in own(TOP.glob("crates/**/*")) if path.suffix in (".rt", ".antt")}
 CRATES = {path.name for path in TOP.glob("crates/*")}
 HEADER = (TOP / "include" / "tirnavoy.h").read_text(encoding="utf-8")
 
@@ -72,9 +78,9 @@ class Page:
     def files(self, word):
         """the files that a word in backquotes names, or None where it is no file"""
         if "/" in word and ("." in word or word.split("/")[0] not in CRATES or word.split("/")[1] in ("src", "specs", "proofs")):
-            return [*TOP.glob(word), *(TOP / "crates").glob(word)]
+            return own([*TOP.glob(word), *(TOP / "crates").glob(word)])
         if word.endswith(".antt"):
-            return list((TOP / "crates").glob(f"**/{word}"))
+            return own((TOP / "crates").glob(f"**/{word}"))
         return None
 
     def plain_name(self, word, files, table):
@@ -86,14 +92,14 @@ class Page:
             crate, *_, name = word.split("::")
             sources = (path.read_text(encoding="utf-8") for path in (TOP / "crates" / crate / "src").glob("*.rt"))
             self.expect(any(re.search(rf'\bpub (extern "C" )?fn {re.escape(name)}\b', text) for text in sources), word, "is no public function")
-        elif word.startswith(("tirnavoy_", "_")):
+        elif word.startswith(("tirnavoy_", "_")) and "-" not in word:
             name = word if word.startswith("t") else f"tirnavoy{word}"
             self.expect(re.search(rf"\b{name}\(", HEADER), word, "is not in include/tirnavoy.h")
         elif "*" in word:
             self.expect(any((TOP / "crates").glob(word)), word, "fits no crate")
         elif word in CRATES:
             self.passed += 1
-        elif word not in WORDS and (table or re.search(r"-|[a-z][A-Z]", word)):
+        elif word not in WORDS and (table or re.search(r"[-_]|[a-z][A-Z]", word)):
             places = [path for path in NAMES if not files or any(file in (path, *path.parents) for file in files)]
             named = ", ".join(str(file.relative_to(TOP)) for file in files) or "any file of crates/"
             self.expect(any(word in NAMES[path] for path in places), f"`{word}`", f"is not declared in {named}")
