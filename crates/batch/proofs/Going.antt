@@ -199,10 +199,6 @@ before c e₀ d₀ at m o e d us ys i =
           (lt-or-le 0 at);
     }
 
--- a place is one of the records
-pub within : (c : Handed) (e₀ d₀ : List ℕ) (at : ℕ) (m o e d : List ℕ) (us ys : List Answer) → Inv c e₀ d₀ at m o e d us ys → at < total c → at < length us
-within c e₀ d₀ at m o e d us ys i l = let fit = places_fit c in let room = i.room in let long = i.long in omega arith
-
 -- ---- with k = 0 nothing is asked
 
 zeros_are : (q : ℕ) → cat (λ _. 0 ∷ 0 ∷ 0 ∷ 0 ∷ []) q ≡ padded (4 * q) []
@@ -228,8 +224,7 @@ one_told c o q e =
     sym (put_is o (outcome c q) q) ∙ over-next (outcome c) c.outcomes o (outcome c q) q (4 * q) (4 * q + 4 - 4 * q) e (omega arith) (omega arith) refl
     ∙ ap (λ (z : ℕ). over (cat (outcome c) z) c.outcomes) (sym (add-one q))
 
-module _ (c : Handed) (e₀ d₀ : List ℕ) (at : ℕ) (m o e d m' o' e' d' : List ℕ) (us ys : List Answer) (r : Step) (i : Inv c e₀ d₀ at m o e d us ys) (a : After (with c m o) at e d r m' o' e' d')
-    (lm : length m' ≡ length m) (lo : length o' ≡ length o) (le : length e' ≡ length e) (ld : length d' ≡ length d) where
+module _ {c : Handed} {e₀ d₀ : List ℕ} {at : ℕ} {m o e d m' o' e' d' : List ℕ} {us ys : List Answer} {r : Step} (i : Inv c e₀ d₀ at m o e d us ys) (a : After (with c m o) at e d r m' o' e' d') where
   same_total : total (with c m o) ≡ total c
   same_total = total-same c m o i.lm i.lo
 
@@ -250,9 +245,12 @@ module _ (c : Handed) (e₀ d₀ : List ℕ) (at : ℕ) (m o e d m' o' e' d' : L
   pub more_no : at ≡ total c → r.more ≡ 0
   more_no b = ap (λ (z : Step). z.more) (stops b)
 
-  -- a turn that gives a record is at a place, and the turn that gives none is behind the last
+  -- a turn that gives a record is at a place, which is one of the records, and the turn that gives none is behind the last
   pub inside : (r.more ≡ 0 → ⊥) → at < total c
   inside ne = ⊎_elim (λ (l : at < total c). l) (λ (g : total c ≤ at). absurd (ne (more_no (let w = i.within in omega arith)))) (lt-or-le at (total c))
+
+  pub placed : (r.more ≡ 0 → ⊥) → at < length us
+  placed ne = let l = inside ne in let fit = places_fit c in let room = i.room in let long = i.long in omega arith
 
   pub past : r.more ≡ 0 → at ≡ total c
   past z = ⊎_elim (λ (l : at < total c). absurd (let y = more_yes l in omega arith)) (λ (g : total c ≤ at). let w = i.within in omega arith) (lt-or-le at (total c))
@@ -328,8 +326,8 @@ module _ (c : Handed) (e₀ d₀ : List ℕ) (at : ℕ) (m o e d m' o' e' d' : L
       ⊎_elim (λ z. ap (λ (l : List ℕ). get_or l (4 * (at / c.k) + 1) 0) (first-told b k z) ∙ answers_at o (at / c.k) (single_of c (at / c.k)) (omega arith))
       (λ z. ap (λ (l : List ℕ). get_or l (4 * (at / c.k) + 1) 0) (later-told b k z) ∙ i.told (some _ z)) (eq-or_ne (at % c.k) 0)
 
-  pub next : at < total c → Inv c e₀ d₀ (at + 1) m' o' e' d' (set us at (record_in r)) ys
-  next b =
+  pub next : length m' ≡ length m → length o' ≡ length o → length e' ≡ length e → length d' ≡ length d → at < total c → Inv c e₀ d₀ (at + 1) m' o' e' d' (set us at (record_in r)) ys
+  next lm lo le ld b =
       let h = clear_at c at b in
       let t = all-places c h in
       let k = some_places at (queries_in c) c.k (omega arith) in

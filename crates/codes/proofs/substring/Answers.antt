@@ -41,7 +41,7 @@ returns-then-o-len-le64 c =
 
 pub returns-else-o-len-le64 : goal.returns-else-o-len-le64
 returns-else-o-len-le64 c =
-    let word = c.shared_slice_known-else-o-len-le64-2-1.given (c.args.from / 64) in
+    let word = c.type_inv.code (c.args.from / 64) in
     crossed c.args.from c.args.len c.args.code.now (omega arith) (omega arith) (omega arith)
 
 -- the sum is a number of len bits

@@ -62,7 +62,7 @@ bounds-ids-before c =
     omega (arith, room s)
 
 pub overflow_cast-i : goal.overflow_cast-i
-overflow_cast-i c = omega (arith, c.shared_slice_known-in-loop-p-1.given (c.args.z * length c.args.stars.now + c.loop-p.p))
+overflow_cast-i c = omega (arith, c.type_inv.ids (c.args.z * length c.args.stars.now + c.loop-p.p))
 
 pub bad_id-requires : goal.bad_id-requires
 bad_id-requires c = (c.requires.lent.known, c.requires.z_bound.0, c.requires.lent.codes)
@@ -76,7 +76,7 @@ returns-then-bad_id c =
     sym (Buckets.bad_here (X s) _ _ _ _ i (let e = c.start-end.ensures in omega arith) (test ∙ c.if-bad_id.true))
 
 pub overflow_add-least : goal.overflow_add-least
-overflow_add-least c = omega (arith, c.shared_slice_known-in-loop-p-1.given (c.args.z * length c.args.stars.now + c.loop-p.p))
+overflow_add-least c = omega (arith, c.type_inv.ids (c.args.z * length c.args.stars.now + c.loop-p.p))
 
 pub loop-p-preserved : goal.loop-p-preserved
 unfolding start id_at substring_of

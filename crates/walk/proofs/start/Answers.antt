@@ -14,7 +14,7 @@ pub bounds-starts-at : goal.bounds-starts-at
 bounds-starts-at c = omega (arith, c.starts_before.ensures, in_starts _ (facts _ c.requires.0) _ c.requires.1)
 
 pub overflow_cast-result : goal.overflow_cast-result
-overflow_cast-result c = omega (arith, c.shared_slice_known-2-1.given (c.starts_before.result + c.args.v))
+overflow_cast-result c = omega (arith, c.type_inv.starts (c.starts_before.result + c.args.v))
 
 pub returns : goal.returns
 returns c = rw c.starts_before.ensures

@@ -86,7 +86,7 @@ bounds-ids-before c =
     let e = c.start-end.ensures in omega (arith, room s, (sound s).inside)
 
 pub overflow_cast-i : goal.overflow_cast-i
-overflow_cast-i c = omega (arith, c.shared_slice_known-in-loop-p-1.given (c.args.z * length c.args.stars.now + c.loop-p.p))
+overflow_cast-i c = omega (arith, c.type_inv.ids (c.args.z * length c.args.stars.now + c.loop-p.p))
 
 pub test-seen-requires : goal.test-seen-requires
 unfolding start id_at
