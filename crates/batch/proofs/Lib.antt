@@ -1,5 +1,5 @@
--- Laws behind a batch: the refusals, one turn, all turns; and that each statement determines how a call ends.
+-- Laws behind a batch: the refusals, one query, all queries; and that its statement determines how a call ends.
 pub mod Refusing
-pub mod Turns
+pub mod Single
 pub mod Going
 pub mod Determined

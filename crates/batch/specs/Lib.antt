@@ -1,2 +1,2 @@
--- What one turn of the batch asks and leaves, and what all of them leave in the scratch lists.
-pub mod Turn
+-- What one query's part of a batch asks, and what all of them leave in the scratch lists.
+pub mod Part

@@ -1,344 +1,146 @@
-// A table of students at once: up to 256 queries in one call, each answered as a single call answers it. The records are filled place by place; at the first place of a query's part its search is made.
+// A table of students at once: up to 256 queries in one call, each answered as a single call answers it.
 #![tactic(auto)]
 
-ghost use Rattle.std.specs.Prelude.{◌≡◌, ◌<◌, length};
-ghost use Rattle.scope.specs.Codes.{code_of};
-ghost use Rattle.scope.specs.Shape.{shape};
-ghost use Rattle.scope.specs.Tables.{index};
-ghost use Rattle.scope.specs.Refusals.{unless};
-ghost use Rattle.scope.specs.Batch.{batch, batch_rows, single, outcome_of, record_from, fills};
-ghost use Rattle.batch.specs.Turn.{Picks, given, stopped, Asks, Heard, Opens, Scratch, Before, After, fill_end};
+ghost use Rattle.std.specs.Prelude.{◌≡◌, [], length};
+ghost use Rattle.theory.specs.Lists.{tab, over, padded};
+ghost use Rattle.scope.specs.Tables.{n};
+ghost use Rattle.scope.specs.Refusals.{of_built, mark_words, allowed};
+ghost use Rattle.scope.specs.Batch.{batch, batch_rows, single, outcome_of, record_from, record_of, fills};
+ghost use Rattle.batch.specs.Part.{Listed, Asks, Scratch, fill_end};
 
-use scope::{Answer, Found, Refusal, Shape};
-use shapes::Early;
+use scope::{Answer, Index, Refusal, Report};
+use shapes::Accepted;
 
-// What is done at a place of the records: whether a record is written there (1 or 0), the refusal's number (0 if none), and the record.
-#[derive(Clone, Copy)]
-pub struct Step {
-    pub more: u32,
-    pub number: u32,
-    pub entry: u32,
-    pub star: u32,
-    pub distance: u32,
-}
-
-// Refusals 1 to 5, but for the answer lists, and 11.
+// Refusals 1 to 5, but for the answer lists, and 11. Of the records only their number counts.
 fn refused(
-    shape: Shape,
-    stars: &[u32],
-    codes: &[u64],
-    starts: &[u32],
-    ids: &[u32],
+    index: &Index<'_>,
     queries: &[u64],
     k: u32,
-    places: usize,
     marks: &[u64],
     outcomes: &[u32],
-) -> Early
-    ensures { result ≡ unless (batch_rows (batch (index shape stars.now codes.now starts.now ids.now) queries.now k marks.now outcomes.now places)) Early.Refused Early.Fine }
+    places: usize,
+) -> Result<(), Refusal>
+    ensures { result ≡ allowed (batch_rows (batch index.now queries.now k marks.now outcomes.now places)) }
 {
-    let early = shapes::refused_early(shape, stars, codes, starts, ids);
-    if let Early::Refused(_) = early {
-        return early;
-    }
-    let w = shape.w as usize;
+    let accepted = Accepted::of(index)?;
+    let w = accepted.shape.words();
     if queries.len() % w != 0 {
-        return Early::Refused(Refusal::Query);
+        return Err(Refusal::Query);
     }
     let count = queries.len() / w;
-    let words = (stars.len() + 63) / 64;
+    let words = accepted.entries().div_ceil(64);
     if marks.len() < words {
-        return Early::Refused(Refusal::Room);
+        return Err(Refusal::Room);
     }
     if 256 < count {
-        return Early::Refused(Refusal::Batch);
+        return Err(Refusal::Batch);
     }
     if places < count * (k as usize) {
-        return Early::Refused(Refusal::Batch);
+        return Err(Refusal::Batch);
     }
     if outcomes.len() < 4 * count {
-        return Early::Refused(Refusal::Batch);
+        return Err(Refusal::Batch);
     }
-    Early::Fine
+    Ok(())
 }
 
 // A query's outcome: refusal, number of answers, opened, tested.
-fn tell(found: Found, outcome: &mut [u32])
-    requires { length outcome.old ≡ 4 }
-    ensures { outcome.new ≡ outcome_of found }
+fn outcome(found: Result<Report, Refusal>) -> [u32; 4]
+    ensures { result ≡ outcome_of found }
 {
     match found {
-        Found::Listed(report) => {
-            let o = report.opened;
-            let t = report.tested;
-            outcome[0] = 0;
-            outcome[1] = report.answers;
-            outcome[2] = o.0;
-            outcome[3] = t.0;
-        }
-        Found::Refused(refusal) => {
-            outcome[0] = refusal.number();
-            outcome[1] = 0;
-            outcome[2] = 0;
-            outcome[3] = 0;
-        }
+        Ok(report) => [0, report.answers, report.opened.0, report.tested.0],
+        Err(refusal) => [refusal.number(), 0, 0, 0],
     }
 }
 
-// One query: a single call, whose answers stay in the scratch lists, and its outcome.
-fn ask(
-    shape: Shape,
-    stars: &[u32],
-    codes: &[u64],
-    starts: &[u32],
-    ids: &[u32],
-    queries: &[u64],
-    k: u32,
-    query: usize,
-    marks: &mut [u64],
-    outcomes: &mut [u32],
-    entries: &mut [u32],
-    distances: &mut [u32],
-)
-    requires { Asks (index shape stars.now codes.now starts.now ids.now) queries.now k query marks.old outcomes.old entries.old distances.old }
-    ensures { Heard (index shape stars.now codes.now starts.now ids.now) (single (index shape stars.now codes.now starts.now ids.now) (code_of shape.w queries.now query) k) query marks.old outcomes.old entries.old distances.old marks.new outcomes.new entries.new distances.new }
-{
-    let w = shape.w as usize;
-    let a = query * w;
-    let e = a + w;
-    let found = search::nearest(
-        shape,
-        stars,
-        codes,
-        starts,
-        ids,
-        &queries[a..e],
-        k,
-        marks,
-        entries,
-        distances,
-    );
-    let first = 4 * query;
-    let last = first + 4;
-    tell(found, &mut outcomes[first..last]);
-}
-
-// The record at a place of a query's part: an answer, or zeros behind the last one.
-fn pick(stars: &[u32], answers: u32, place: usize, entries: &[u32], distances: &[u32]) -> Step
-    requires { place < answers → Picks stars.now place entries.now distances.now }
-    ensures { result ≡ given (record_from stars.now answers entries.now distances.now place) }
+// The record at a place of a query's part: an answer, or zeros behind the last one. The scratch lists are longer than what a query lists.
+fn pick(stars: &[u32], answers: u32, entries: &[u32], distances: &[u32], place: usize) -> Answer
+    requires { Listed stars.now answers entries.now distances.now }
+    ensures { result ≡ record_from stars.now answers entries.now distances.now place }
 {
     if place < answers as usize {
         let entry = entries[place];
-        return Step {
-            more: 1,
-            number: 0,
+        return Answer {
             entry,
             star: stars[entry as usize],
             distance: distances[place],
         };
     }
-    Step {
-        more: 1,
-        number: 0,
+    Answer {
         entry: 0,
         star: 0,
         distance: 0,
     }
 }
 
-// One query, and its first record.
-fn fresh(
-    shape: Shape,
-    stars: &[u32],
-    codes: &[u64],
-    starts: &[u32],
-    ids: &[u32],
+// Each record of a query's part.
+fn write(stars: &[u32], answers: u32, entries: &[u32], distances: &[u32], records: &mut [Answer])
+    requires { Listed stars.now answers entries.now distances.now }
+    ensures { records.new ≡ tab (record_from stars.now answers entries.now distances.now) (length records.old) }
+{
+    for (place, record) in records.iter_mut().enumerate() {
+        *record = pick(stars, answers, entries, distances, place);
+    }
+}
+
+// One query's part: a single call, whose answers stay in the scratch lists, its outcome and its records.
+fn answer(
+    index: &Index<'_>,
+    query: &[u64],
+    k: u32,
+    marks: &mut [u64],
+    told: &mut [u32],
+    entries: &mut [u32],
+    distances: &mut [u32],
+    records: &mut [Answer],
+)
+    requires { Asks index.now query.now k marks.old told.old entries.old distances.old }
+    ensures marks_after { marks.new ≡ over (padded (mark_words (n index.now)) []) marks.old }
+    ensures told_after { told.new ≡ outcome_of (single index.now query.now k).answer }
+    ensures entries_after { entries.new ≡ over (single index.now query.now k).entries entries.old }
+    ensures distances_after { distances.new ≡ over (single index.now query.now k).distances distances.old }
+    ensures records_after { records.new ≡ tab (record_of index.now.stars (single index.now query.now k)) (length records.old) }
+{
+    let found = search::nearest(index, query, k, marks, entries, distances);
+    told.copy_from_slice(&outcome(found));
+    write(index.stars, told[1], entries, distances, records);
+}
+
+// The k nearest entries to each of the queries. The two scratch lists take one query's answers at a time.
+pub fn fill(
+    index: &Index<'_>,
     queries: &[u64],
     k: u32,
-    query: usize,
     marks: &mut [u64],
     outcomes: &mut [u32],
     entries: &mut [u32],
     distances: &mut [u32],
-) -> Step
-    requires { Asks (index shape stars.now codes.now starts.now ids.now) queries.now k query marks.old outcomes.old entries.old distances.old }
-    ensures { Opens (index shape stars.now codes.now starts.now ids.now) (single (index shape stars.now codes.now starts.now ids.now) (code_of shape.w queries.now query) k) query marks.old outcomes.old entries.old distances.old result marks.new outcomes.new entries.new distances.new }
-{
-    ask(
-        shape, stars, codes, starts, ids, queries, k, query, marks, outcomes, entries, distances,
-    );
-    let answers = outcomes[4 * query + 1];
-    pick(stars, answers, 0, entries, distances)
-}
-
-fn stop(number: u32) -> Step
-    ensures { result ≡ stopped number }
-{
-    Step {
-        more: 0,
-        number,
-        entry: 0,
-        star: 0,
-        distance: 0,
-    }
-}
-
-// The first turn: the refusals, the marks cleared, and the first query's first record.
-fn begin(
-    shape: Shape,
-    stars: &[u32],
-    codes: &[u64],
-    starts: &[u32],
-    ids: &[u32],
-    queries: &[u64],
-    k: u32,
-    places: usize,
-    marks: &mut [u64],
-    outcomes: &mut [u32],
-    entries: &mut [u32],
-    distances: &mut [u32],
-) -> Step
-    requires { Before (batch (index shape stars.now codes.now starts.now ids.now) queries.now k marks.old outcomes.old places) 0 entries.old distances.old }
-    ensures { After (batch (index shape stars.now codes.now starts.now ids.now) queries.now k marks.old outcomes.old places) 0 entries.old distances.old result marks.new outcomes.new entries.new distances.new }
-{
-    let early = refused(
-        shape, stars, codes, starts, ids, queries, k, places, marks, outcomes,
-    );
-    if let Early::Refused(refusal) = early {
-        return stop(refusal.number());
-    }
-    codes::clear(marks, (stars.len() + 63) / 64);
-    let count = queries.len() / (shape.w as usize);
-    if k == 0 {
-        codes::wipe(outcomes, 4 * count);
-        return stop(0);
-    }
-    if count == 0 {
-        return stop(0);
-    }
-    fresh(
-        shape, stars, codes, starts, ids, queries, k, 0, marks, outcomes, entries, distances,
-    )
-}
-
-// A later turn: the record at a place, or none where no place is left. At the first place of a query's part its search is made.
-fn later(
-    shape: Shape,
-    stars: &[u32],
-    codes: &[u64],
-    starts: &[u32],
-    ids: &[u32],
-    queries: &[u64],
-    k: u32,
-    places: usize,
-    at: usize,
-    marks: &mut [u64],
-    outcomes: &mut [u32],
-    entries: &mut [u32],
-    distances: &mut [u32],
-) -> Step
-    requires { (0 < at) × Before (batch (index shape stars.now codes.now starts.now ids.now) queries.now k marks.old outcomes.old places) at entries.old distances.old }
-    ensures { After (batch (index shape stars.now codes.now starts.now ids.now) queries.now k marks.old outcomes.old places) at entries.old distances.old result marks.new outcomes.new entries.new distances.new }
-{
-    let count = queries.len() / (shape.w as usize);
-    let part = k as usize;
-    if at == count * part {
-        return stop(0);
-    }
-    let query = at / part;
-    let place = at % part;
-    if place == 0 {
-        return fresh(
-            shape, stars, codes, starts, ids, queries, k, query, marks, outcomes, entries,
-            distances,
-        );
-    }
-    let answers = outcomes[4 * query + 1];
-    pick(stars, answers, place, entries, distances)
-}
-
-// The turn at a place of the records.
-fn next<'s, 'm>(
-    w: u32,
-    m: u32,
-    stars: &'s [u32],
-    codes: &'s [u64],
-    starts: &'s [u32],
-    ids: &'s [u32],
-    queries: &'s [u64],
-    k: u32,
-    places: usize,
-    at: usize,
-    marks: &'m mut [u64],
-    outcomes: &'m mut [u32],
-    entries: &'m mut [u32],
-    distances: &'m mut [u32],
-) -> Step
-    requires { Before (batch (index (shape w m) stars.now codes.now starts.now ids.now) queries.now k marks.old outcomes.old places) at entries.old distances.old }
-    ensures { After (batch (index (shape w m) stars.now codes.now starts.now ids.now) queries.now k marks.old outcomes.old places) at entries.old distances.old result marks.new outcomes.new entries.new distances.new }
-{
-    let shape = Shape { w: w, m: m };
-    if at == 0 {
-        return begin(
-            shape, stars, codes, starts, ids, queries, k, places, marks, outcomes, entries,
-            distances,
-        );
-    }
-    later(
-        shape, stars, codes, starts, ids, queries, k, places, at, marks, outcomes, entries,
-        distances,
-    )
-}
-
-// The k nearest entries to each of the queries. The two scratch lists take one query's answers at a time. It only lends, calls and stores.
-pub fn fill<'s, 'm, 'o, 'e, 'd, 'r>(
-    w: u32,
-    m: u32,
-    stars: &'s [u32],
-    codes: &'s [u64],
-    starts: &'s [u32],
-    ids: &'s [u32],
-    queries: &'s [u64],
-    k: u32,
-    marks: &'m mut [u64],
-    outcomes: &'o mut [u32],
-    entries: &'e mut [u32],
-    distances: &'d mut [u32],
-    records: &'r mut [Answer],
-) -> u32
+    records: &mut [Answer],
+) -> Result<(), Refusal>
     requires { Scratch k entries.old distances.old }
-    ensures { (fills result marks.new outcomes.new records.new, entries.new, distances.new) ≡ fill_end (batch (index (shape w m) stars.now codes.now starts.now ids.now) queries.now k marks.old outcomes.old (length records.old)) entries.old distances.old records.old }
+    ensures { let c = batch index.now queries.now k marks.old outcomes.old (length records.old) in
+        (result ≡ allowed (batch_rows c)) × ((fills (of_built result).0 marks.new outcomes.new records.new, entries.new, distances.new) ≡ fill_end c entries.old distances.old records.old) }
 {
-    let mut number: u32 = 0;
-    let mut i: usize = 0;
-    loop {
-        let step = next(
-            w,
-            m,
-            stars,
-            codes,
-            starts,
-            ids,
-            queries,
+    refused(index, queries, k, marks, outcomes, records.len())?;
+    codes::clear(marks, index.stars.len().div_ceil(64));
+    let w = index.shape.w as usize;
+    let part = k as usize;
+    // by index: k may be 0, which is no chunk's length, and after chunks_exact_mut a proof knows no element
+    for i in 0..queries.len() / w {
+        let a = i * w;
+        let first = 4 * i;
+        let place = i * part;
+        answer(
+            index,
+            &queries[a..a + w],
             k,
-            records.len(),
-            i,
             marks,
-            outcomes,
+            &mut outcomes[first..first + 4],
             entries,
             distances,
+            &mut records[place..place + part],
         );
-        number = step.number;
-        if step.more == 0 {
-            break;
-        }
-        records[i] = Answer {
-            entry: step.entry,
-            star: step.star,
-            distance: step.distance,
-        };
-        i += 1;
     }
-    number
+    Ok(())
 }

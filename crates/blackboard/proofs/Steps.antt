@@ -1,14 +1,13 @@
 -- What holds of a step R of a listed shape: its radius is in the square table, and a table has few buckets open. Assumes nothing.
-use mathlib.Core.Path.{◌≡◌, sym, ap, ap₂, ◌∙◌}
+use mathlib.Core.Path.{◌≡◌}
 use mathlib.Core.Bool.{true, cond}
 use Prim.Native.Nat.{ℕ, ◌+◌, ◌/◌, ◌%◌, ◌≤◌}
 use native.Mathlib.Nat.{div-lt_iff_lt-mul, le_of_suc-le-suc}
-use native.Mathlib.Numerals.{add-one}
 use native.Mathlib.Omega.{arith}
 use lib.Dec.{leb}
 use lib.Pow.{pow_mono}
 use Rattle.theory.specs.Lists.{sum}
-use Rattle.theory.proofs.Sums.{sum-suc, sum-le}
+use Rattle.theory.proofs.Sums.{sum-le}
 use Rattle.theory.proofs.Masks.{L-le}
 use Rattle.scope.specs.declared.Shape.{Shape}
 use Rattle.scope.specs.Shape.{q, listed, m, len}
@@ -26,9 +25,6 @@ module _ (sh : Shape) (R : ℕ) (h : listed sh ≡ true) where
       let f = facts sh h in
       omega (arith, L-le (len sh z) (cond (leb z (R % m sh)) (R / m sh + 1) (R / m sh)), pow_mono (f.few_bits z))
 
-  -- one table more, and still few
-  pub more : (z x y : ℕ) → x ≡ sum (open_in sh R) z → y ≡ open_in sh R z → x + y ≡ sum (open_in sh R) (z + 1)
-  more z x y e g = ap₂ (λ (a b : ℕ). a + b) e g ∙ sym (ap (sum (open_in sh R)) (add-one z) ∙ sum-suc (open_in sh R) z)
-
+  -- and all tables have few open
   pub small : (z : ℕ) → z ≤ 64 → sum (open_in sh R) z ≤ 4194304
   small z l = omega (arith, sum-le (open_in sh R) 65536 z (λ z _. few_open z))

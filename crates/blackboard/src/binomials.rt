@@ -49,11 +49,5 @@ pub(crate) fn first_binomials(s: u32, k: u32) -> u32
     requires { (s < 17) × (k ≤ 17) }
     ensures { result ≡ spec.L s k }
 {
-    let mut sum = 0;
-    let mut i = 0;
-    while i < k {
-        sum += binomial(s, i);
-        i += 1;
-    }
-    sum
+    (0..k).map(|i| binomial(s, i)).sum()
 }

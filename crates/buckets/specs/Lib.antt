@@ -1,2 +1,2 @@
--- What the functions on one table are handed.
-pub mod Handed
+-- What the functions on one table speak of.
+pub mod Substrings

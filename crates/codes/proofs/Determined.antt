@@ -1,6 +1,11 @@
 -- Each statement determines how a call ends: its result, and what stands behind each `&mut`. Assumes nothing.
 use mathlib.Core.List.{List}
 use Prim.Native.Nat.{ℕ}
+use denote.RattleType.{RattleType}
+use denote.Param.Laws.{Laws, IsCopy}
+use mir.Syntax.{Dict}
+use Rattle.std.specs.declared.clone.Clone as Clone
+use Rattle.codes.specs.declared.Zero as Zero
 use Rattle.theory.specs.Statements.{Determined}
 use Rattle.theory.proofs.Statements.{whole, result, kept}
 use Rattle.codes.specs.contracts.distance as distance
@@ -15,8 +20,6 @@ use Rattle.codes.specs.contracts.mark as mark
 use Rattle.codes.proofs.mark.Reads as mark_reads
 use Rattle.codes.specs.contracts.clear as clear
 use Rattle.codes.proofs.clear.Reads as clear_reads
-use Rattle.codes.specs.contracts.wipe as wipe
-use Rattle.codes.proofs.wipe.Reads as wipe_reads
 
 pub distance-Determined : Determined distance.ended distance_reads.Post
 distance-Determined κs a x y = result
@@ -33,8 +36,7 @@ marked-Determined κs a x y = result
 pub mark-Determined : Determined mark.ended mark_reads.Post
 mark-Determined κs a x y = whole (λ (l : List ℕ). (tt, (l, kept 1 tt)))
 
-pub clear-Determined : Determined clear.ended clear_reads.Post
-clear-Determined κs a x y = whole (λ (l : List ℕ). (tt, (l, kept 1 tt)))
-
-pub wipe-Determined : Determined wipe.ended wipe_reads.Post
-wipe-Determined κs a x y = whole (λ (l : List ℕ). (tt, (l, kept 1 tt)))
+-- at each number type
+pub clear-Determined : (T : RattleType) (laws : Laws T) (copies : IsCopy T) (Z : Zero.Ghosts T.Denot) (z : Dict) (C : Clone.Ghosts T.Denot) (c : Dict)
+    → Determined (clear.ended T Z z C c) (clear_reads.Post T laws copies Z z C c)
+clear-Determined T laws copies Z z C c κs a x y = whole (λ (l : List T.Denot). (tt, (l, kept 1 tt)))

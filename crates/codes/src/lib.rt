@@ -2,18 +2,13 @@
 #![tactic(auto)]
 
 ghost use Rattle.std.specs.Prelude.{◌≡◌, [], ◌+◌, ◌*◌, ◌≤◌, ◌<◌, length};
-ghost use Rattle.theory.specs.Lists.{over, padded};
+ghost use Rattle.theory.specs.Lists.{over, tab};
 ghost use Rattle.scope.specs.Codes as spec;
 ghost use Rattle.scope.specs.Codes.{code_of};
 ghost use Rattle.codes.specs.Distances.{distance_from, limited};
 ghost use Rattle.codes.specs.Marks.{is_marked, with_mark};
 
-// A distance up to a limit: exact where it is at most that, and otherwise only known to be over.
-#[derive(Clone, Copy)]
-pub enum Limited {
-    Exact(u32),
-    Over,
-}
+// Codes come as C lends them, w words each, with w and the entry i beside them: walk and ranking hold them in types of their own.
 
 // How many bits of entry i's code and the query differ in the first words.
 fn differing(codes: &[u64], i: usize, w: usize, query: &[u64], words: usize) -> u32
@@ -21,32 +16,30 @@ fn differing(codes: &[u64], i: usize, w: usize, query: &[u64], words: usize) -> 
     ensures { result ≡ spec.distance (64 * words) (code_of w codes.now i) query.now }
 {
     let at = i * w;
-    let mut r: u32 = 0;
-    let mut k = 0;
-    while k < words {
-        r += u64::count_ones(codes[at + k] ^ query[k]);
-        k += 1;
+    let mut r = 0;
+    for (a, b) in codes[at..at + words].iter().zip(query) {
+        r += (*a ^ *b).count_ones();
     }
     r
 }
 
-// How many bits of entry i's code and the query differ, up to a limit. First so many words are looked at, if there are more, as are over the limit with 24 bits each: words of
-// unrelated codes differ in 32 bits, hardly ever in fewer than 24.
-pub fn distance(codes: &[u64], i: usize, w: usize, query: &[u64], limit: u32) -> Limited
+// How many bits of entry i's code and the query differ, if that is at most the limit. First so many words are looked at, if there are more, as are over the limit with 24 bits
+// each: words of unrelated codes differ in 32 bits, hardly ever in fewer than 24.
+pub fn distance(codes: &[u64], i: usize, w: usize, query: &[u64], limit: u32) -> Option<u32>
     requires { (w ≤ 4) × (i * w + w ≤ length codes.now) × (w ≤ length query.now) }
     ensures { result ≡ limited limit (distance_from w codes.now query.now i) }
 {
     if limit as usize + 24 < 24 * w {
         let few = limit as usize / 24 + 1;
         if limit < differing(codes, i, w, query, few) {
-            return Limited::Over;
+            return None;
         }
     }
     let d = differing(codes, i, w, query, w);
     if limit < d {
-        return Limited::Over;
+        return None;
     }
-    Limited::Exact(d)
+    Some(d)
 }
 
 // The len bits of a code from bit `from` on, as a number. They may cross from one word into the next.
@@ -89,29 +82,34 @@ pub fn mark(marks: &mut [u64], i: usize)
     ensures { marks.new ≡ with_mark marks.old i }
 {
     let k = i / 64;
-    marks[k] = marks[k] | (1 << (i % 64));
+    marks[k] |= 1 << (i % 64);
 }
 
-// The first n words become 0, the others stay.
-pub fn clear(marks: &mut [u64], n: usize)
-    requires { n ≤ length marks.old }
-    ensures { marks.new ≡ over (padded n []) marks.old }
-{
-    let mut k = 0;
-    while k < n {
-        marks[k] = 0;
-        k += 1;
-    }
+// A number type, with its zero.
+pub trait Zero: Copy {
+    ghost ZERO: { Self };
+
+    const ZERO: Self;
 }
 
-// Writes zeros to the first places of a list.
-pub fn wipe(list: &mut [u32], places: usize)
-    requires { places ≤ length list.old }
-    ensures { list.new ≡ over (padded places []) list.old }
+impl Zero for u32 {
+    ghost ZERO = { 0 };
+
+    const ZERO: u32 = 0;
+}
+
+impl Zero for u64 {
+    ghost ZERO = { 0 };
+
+    const ZERO: u64 = 0;
+}
+
+// The first n places become 0, the others stay.
+pub fn clear<T: Zero>(list: &mut [T], n: usize)
+    requires { n ≤ length list.old }
+    ensures { list.new ≡ over (tab (λ _. T.ZERO) n) list.old }
 {
-    let mut p = 0;
-    while p < places {
-        list[p] = 0;
-        p += 1;
+    for x in &mut list[..n] {
+        *x = T::ZERO;
     }
 }

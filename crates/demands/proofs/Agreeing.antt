@@ -1,4 +1,6 @@
 -- Two calls that differ in their tables alone: both walks are the same, and so is what is left; or both are refused alike, and leave the same. Assumes nothing.
+use Rattle.std.specs.Prelude.{Result, Ok, Err}
+use Rattle.scope.specs.declared.Report.{Report}
 use mathlib.Core.Path.{◌≡◌, refl, sym, ap, ap₂, ◌∙◌}
 use mathlib.Core.Logic.{◌⊎◌, inl, inr, ⊎_elim}
 use mathlib.Core.Bool.{Bool, true, false}
@@ -12,8 +14,6 @@ use Rattle.theory.proofs.Counting.{count_cong}
 use Rattle.theory.proofs.Order.{All, all_append, ranked_cong}
 use Rattle.scope.specs.declared.Refusal.{Refusal}
 use Rattle.scope.specs.declared.Refusal.TheVariants.{BadBucket}
-use Rattle.scope.specs.declared.Found.{Found}
-use Rattle.scope.specs.declared.Found.TheVariants as found
 use Rattle.scope.specs.Tables.{Index, n}
 use Rattle.scope.specs.Walk.{Question, distance_of, opens, opened, tested, opened_count}
 use Rattle.scope.specs.Refusals.{Rows, refusal, met, unless, lent, mark_words}
@@ -114,22 +114,22 @@ module _ {A : Type 0} (ask : Question) (starts ids : List ℕ) (N N' : ℕ) (a b
       )
 
 -- a search that is refused so leaves the same
-refused-same : (c : Asked) (starts ids : List ℕ) (r r' : Found) (f : Refusal) (P : ℕ) (l l' : List ℕ) → Quiet f → r' ≡ found.Refused f → r ≡ found.Refused f
+refused-same : (c : Asked) (starts ids : List ℕ) (r r' : Result Report Refusal) (f : Refusal) (P : ℕ) (l l' : List ℕ) → Quiet f → r' ≡ Err f → r ≡ Err f
     → search_end (recalled c starts ids) r' P l' ≡ search_end c r P l
 unfolding search_end
 refused-same c starts ids r r' f P l l' h e' e =
     rw (e', e) (λ i. record {
-      answer = found.Refused f;
+      answer = Err f;
       marks = lent (refusal f).0 (mark_words (n c.question.index)) [] c.marks;
       entries = h P l' l c.entries i;
       distances = h P (map (distance_of c.question) l') (map (distance_of c.question) l) c.distances i;
     })
 
 -- and one that is not, with the same answers
-listed_same : (c : Asked) (starts ids : List ℕ) (r r' : Found) (P : ℕ) (l l' : List ℕ) → r' ≡ r → l' ≡ l
+listed_same : (c : Asked) (starts ids : List ℕ) (r r' : Result Report Refusal) (P : ℕ) (l l' : List ℕ) → r' ≡ r → l' ≡ l
     → search_end (recalled c starts ids) r' P l' ≡ search_end c r P l
 unfolding search_end
-listed_same c starts ids r r' P l l' e g = ap₂ (λ (r : Found) (l : List ℕ). search_end c r P l) e g
+listed_same c starts ids r r' P l l' e g = ap₂ (λ (r : Result Report Refusal) (l : List ℕ). search_end c r P l) e g
 
 -- a search that lists l after N steps, or l' after N'
 module _ (c : Asked) (starts ids : List ℕ) (N N' P : ℕ) (a b b' : Rows) (l l' : List ℕ) where
@@ -137,13 +137,13 @@ module _ (c : Asked) (starts ids : List ℕ) (N N' P : ℕ) (a b b' : Rows) (l l
       → (N' ≡ N → AllSame c.question.index starts ids (opened c.question N) → (b' ≡ b) × (l' ≡ l))
       → Compared c.question starts ids N N'
       → search_end (recalled c starts ids)
-      (unless (a ++ (walked (reasked c.question starts ids) N' ++ b')) found.Refused (found.Listed (report (reasked c.question starts ids) N' l'))) P l'
-      ≡ search_end c (unless (a ++ (walked c.question N ++ b)) found.Refused (found.Listed (report c.question N l))) P l
+      (unless (a ++ (walked (reasked c.question starts ids) N' ++ b')) Err (Ok (report (reasked c.question starts ids) N' l'))) P l'
+      ≡ search_end c (unless (a ++ (walked c.question N ++ b)) Err (Ok (report c.question N l))) P l
   search_local quiet same compared =
       let ask = c.question in
       let other = reasked ask starts ids in
       ⊎_elim (λ h. listed_same c starts ids _ _ P l l' h.2 (same h.0 h.1).1) (λ h. refused-same c starts ids _ _ h.0 P l l' h.1 h.2 h.3)
-      (alike ask starts ids N N' a b b' found.Refused (found.Listed (report ask N l)) (found.Listed (report other N' l')) quiet
+      (alike ask starts ids N N' a b b' Err (Ok (report ask N l)) (Ok (report other N' l')) quiet
       (λ e s.
       let (after, answers) = same e s in
-      (after, ap₂ (λ (k : ℕ) (l : List ℕ). found.Listed (report other k l)) e answers ∙ ap found.Listed (report-same ask starts ids N l s))) compared)
+      (after, ap₂ (λ (k : ℕ) (l : List ℕ). Ok (report other k l)) e answers ∙ ap Ok (report-same ask starts ids N l s))) compared)

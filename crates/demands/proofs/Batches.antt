@@ -1,4 +1,5 @@
 -- L3, the batch: each query's part equals any single call with that query; over trusted tables it holds demand 2's answers; another query changes no other part. Assumes nothing.
+use Rattle.std.specs.Prelude.{Ok}
 use mathlib.Core.Path.{◌≡◌, refl, sym, ap, ◌∙◌}
 use mathlib.Core.Logic.{⊎_elim}
 use mathlib.Core.Bool.{Bool, true, false, cond}
@@ -14,7 +15,6 @@ use Rattle.theory.proofs.Lists.{take-over, length-tab, tab_cong, length-padded, 
 use Rattle.theory.proofs.Parts.{length-parts, read_part}
 use Rattle.theory.proofs.Tests.{either}
 use Rattle.scope.specs.declared.Answer.{Answer}
-use Rattle.scope.specs.declared.Found.TheVariants as found
 use Rattle.scope.specs.Codes.{code_of}
 use Rattle.scope.specs.Shape.{m, starts_before}
 use Rattle.scope.specs.Tables.{n}
@@ -115,7 +115,7 @@ module _ (c : Handed) (such : BatchCall c) (i : ℕ) (b : i < queries_in c) wher
       let e = length-padded most [] in
       nearest-lists (asked ask (padded (mark_words (n c.index)) []) own own) c.k (batch-call (padded (mark_words (n c.index)) []) own own (omega arith) (omega arith) (omega arith))
 
-  listed : (single_of c i).answer ≡ found.Listed found_in.report
+  listed : (single_of c i).answer ≡ Ok found_in.report
   listed = found_in.listed
 
   answered : answers_of (single_of c i).answer ≡ most

@@ -1,5 +1,6 @@
 -- What the lab can quote: a code that stands in the catalogue is found after one bucket; `none` is a promise about every entry; the k nearest
 -- are the first of those within D, and cost the same buckets. Assumes nothing.
+use Rattle.std.specs.Prelude.{Ok}
 use mathlib.Core.Path.{◌≡◌, refl, sym, ap, ◌∙◌}
 use mathlib.Core.Logic.{⊎_elim}
 use mathlib.Core.Bool.{◌&&◌, cond}
@@ -18,10 +19,8 @@ use Rattle.theory.proofs.Counting.{count_less}
 use Rattle.theory.proofs.Order.{first-near}
 use Rattle.theory.proofs.Placing.{all, length-ranked}
 use Rattle.scope.specs.declared.Report.{Report}
-use Rattle.scope.specs.declared.Found.TheVariants.{Listed}
 use Rattle.scope.specs.declared.Verdict.TheVariants.{None}
 use Rattle.scope.specs.declared.VerdictReport.{VerdictReport}
-use Rattle.scope.specs.declared.Judged.TheVariants.{Given}
 use Rattle.scope.specs.Codes.{code_of}
 use Rattle.scope.specs.Shape.{q, m, len}
 use Rattle.scope.specs.Tables.{n}
@@ -62,7 +61,7 @@ one_bucket len m h = sum_at (λ z. L (len z) (cond (leb z 0) (0 + 1) 0)) 0 m (λ
 
 pub exact_match : (c : Asked) (i : ℕ) → NearestCall c 1 → let x = c.question.index in
     i < n x → code_of x.shape.w x.codes i ≡ c.question.query
-    → (rep : Report) × ((nearest_end c 1).answer ≡ Listed rep) × (rep.answers ≡ 1) × (rep.opened.0 ≡ 1) × (take 1 (nearest_end c 1).distances ≡ 0 ∷ [])
+    → (rep : Report) × ((nearest_end c 1).answer ≡ Ok rep) × (rep.answers ≡ 1) × (rep.opened.0 ≡ 1) × (take 1 (nearest_end c 1).distances ≡ 0 ∷ [])
 unfolding kth_distance
 exact_match c i such entry equal =
     let ask = c.question in
@@ -87,7 +86,7 @@ exact_match c i such entry equal =
 -- ---- `none` with reach t: every entry is farther than t
 
 pub none_is_a_promise : (ask : Question) (marks : List ℕ) (t g : ℕ) → VerdictCall ask marks t g
-    → (rep : VerdictReport) → (verdict_end ask marks t g).answer ≡ Given rep → rep.verdict ≡ None → (j : ℕ) → j < n ask.index → t < distance_of ask j
+    → (rep : VerdictReport) → (verdict_end ask marks t g).answer ≡ Ok rep → rep.verdict ≡ None → (j : ℕ) → j < n ask.index → t < distance_of ask j
 none_is_a_promise ask marks t g such rep given none =
     let (r, e, says) = verdict_says ask marks t g such in
     let same : r.verdict ≡ None = let s : r ≡ rep = cc in ap (λ (r : VerdictReport). r.verdict) s ∙ none in

@@ -1,4 +1,5 @@
 -- Demand 3, the count: over trusted tables the search for the k nearest opens the buckets of the blackboard, each once, and reports their number. Assumes nothing.
+use Rattle.std.specs.Prelude.{Ok}
 use mathlib.Core.Path.{◌≡◌, sym, ap, ◌∙◌}
 use mathlib.Core.Logic.{inl, inr, ⊎_elim}
 use mathlib.Core.Bool.{true, ◌&&◌, and-true, and-false, cond}
@@ -19,7 +20,6 @@ use Rattle.theory.proofs.Opening.{opened_once, opened-none}
 use Rattle.scope.specs.Shape.{q, listed, m, first_bit, len, size}
 use Rattle.scope.specs.Tables.{n}
 use Rattle.scope.specs.declared.Report.{Report}
-use Rattle.scope.specs.declared.Found.TheVariants.{Listed}
 use Rattle.scope.specs.Walk.{Question, distance_of, open_after, opened, tested_count}
 use Rattle.scope.specs.Search.{K, nearest_steps, within_steps}
 use Rattle.scope.specs.Calls.{Asked, room, report, nearest_end, within_end, search_end}
@@ -87,7 +87,7 @@ module _ (c : Asked) (k : ℕ) (such : NearestCall c k) (some : 0 < K c.question
   pub count_is : let ask = c.question in
       let K = K ask.index k in
       (nearest_end c k).answer
-      ≡ Listed (record { answers = K; opened = record { 0 = open_after ask.index.shape (kth_distance ask K) }; tested = tested_count ask (nearest_steps ask k) })
+      ≡ Ok (record { answers = K; opened = record { 0 = open_after ask.index.shape (kth_distance ask K) }; tested = tested_count ask (nearest_steps ask k) })
   unfolding nearest_end search_end report
   count_is =
       let ask = c.question in
@@ -103,7 +103,7 @@ module _ (c : Asked) (k : ℕ) (such : NearestCall c k) (some : 0 < K c.question
       let sh = ask.index.shape in
       (r a : ℕ) → a < m sh → kth_distance ask (K ask.index k) ≡ m sh * r + a
       → ((z v : ℕ) → times (is z v) (opened ask (nearest_steps ask k)) ≡ one_if (in_radius ask r a z v))
-      × ((rep : Report) × ((nearest_end c k).answer ≡ Listed rep) × (rep.opened.0 ≡ sum (λ z. L (len sh z) (cond (leb z a) (r + 1) r)) (m sh)))
+      × ((rep : Report) × ((nearest_end c k).answer ≡ Ok rep) × (rep.opened.0 ≡ sum (λ z. L (len sh z) (cond (leb z a) (r + 1) r)) (m sh)))
   demand_3 r a ha e =
       let ask = c.question in
       let sh = ask.index.shape in
@@ -116,7 +116,7 @@ module _ (c : Asked) (k : ℕ) (such : NearestCall c k) (some : 0 < K c.question
       let sh = ask.index.shape in
       let s = q sh / m sh in
       (r a : ℕ) → a < m sh → q sh % m sh ≡ 0 → kth_distance ask (K ask.index k) ≡ m sh * r + a
-      → (rep : Report) × ((nearest_end c k).answer ≡ Listed rep) × (rep.opened.0 ≡ (a + 1) * L s (r + 1) + (m sh - a - 1) * L s r)
+      → (rep : Report) × ((nearest_end c k).answer ≡ Ok rep) × (rep.opened.0 ≡ (a + 1) * L s (r + 1) + (m sh - a - 1) * L s r)
   demand_3_equal r a ha whole e =
       let sh = c.question.index.shape in
       let D : kth_distance c.question (K c.question.index k) ≡ r * m sh + a = omega arith in
@@ -125,7 +125,7 @@ module _ (c : Asked) (k : ℕ) (such : NearestCall c k) (some : 0 < K c.question
 -- the search within r opens what the steps 0 to r open, and reports the blackboard's count after step r
 pub within_count : (c : Asked) (r : ℕ) → WithinCall c r → let ask = c.question in
     0 < n ask.index → length (neighbours ask r) ≤ room c
-    → (rep : Report) × ((within_end c r).answer ≡ Listed rep) × (rep.opened.0 ≡ open_after ask.index.shape r)
+    → (rep : Report) × ((within_end c r).answer ≡ Ok rep) × (rep.opened.0 ≡ open_after ask.index.shape r)
 unfolding within_end search_end report
 within_count c r such some h =
     let ask = c.question in (

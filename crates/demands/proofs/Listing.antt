@@ -1,4 +1,6 @@
 -- What a search that lists l leaves in its two answer lists; and that the scan's lists hold each entry once, in order. Assumes nothing.
+use Rattle.std.specs.Prelude.{Result, Ok}
+use Rattle.scope.specs.declared.Refusal.{Refusal}
 use mathlib.Core.Path.{◌≡◌, sym, ap, ◌∙◌}
 use mathlib.Core.Bool.{Bool, true, ◌&&◌, and-true}
 use mathlib.Core.List.{List, map}
@@ -12,8 +14,6 @@ use Rattle.theory.proofs.Tests.{one_if, leb_is_ltb}
 use Rattle.theory.proofs.Lists.{take-padded}
 use Rattle.theory.proofs.Order.{ranked_sorted, ranked_once, order_unique}
 use Rattle.scope.specs.declared.Report.{Report}
-use Rattle.scope.specs.declared.Found.{Found}
-use Rattle.scope.specs.declared.Found.TheVariants.{Listed}
 use Rattle.scope.specs.Shape.{q}
 use Rattle.scope.specs.Codes.{code_of}
 use Rattle.scope.specs.Tables.{n}
@@ -26,7 +26,7 @@ use Rattle.demands.specs.Answers.{Exactly, Lists}
 
 -- ---- the first places of an answer list
 
-pub lists : (c : Asked) (r : Found) (P : ℕ) (l : List ℕ) (rep : Report) → r ≡ Listed rep → rep.answers ≡ length l → length l ≤ P
+pub lists : (c : Asked) (r : Result Report Refusal) (P : ℕ) (l : List ℕ) (rep : Report) → r ≡ Ok rep → rep.answers ≡ length l → length l ≤ P
     → Lists c (search_end c r P l) l
 unfolding search_end lent
 lists c r P l rep e a h = record {

@@ -1,5 +1,8 @@
 -- Demand 3, nothing else matters: under other tables, as long and the same on every place that an opened bucket owns, each call ends the same, whatever
 -- stands elsewhere, over unsound tables too. Opened are the buckets up to and with the first bad one. Assumes nothing.
+use Rattle.std.specs.Prelude.{Result, Ok, Err}
+use Rattle.scope.specs.declared.Refusal.{Refusal}
+use Rattle.scope.specs.declared.VerdictReport.{VerdictReport}
 use mathlib.Core.Path.{◌≡◌, refl, sym, ap, ap₂, ◌∙◌}
 use mathlib.Core.Logic.{⊎_elim}
 use mathlib.Core.Bool.{true, false}
@@ -9,8 +12,6 @@ use lib.ListN.{length, take, get_or}
 use Rattle.theory.specs.Lists.{any, ranked, is}
 use Rattle.theory.proofs.Opening.{any-bucket}
 use Rattle.scope.specs.declared.Report.{Report}
-use Rattle.scope.specs.declared.Judged.{Judged}
-use Rattle.scope.specs.declared.Judged.TheVariants as judged
 use Rattle.scope.specs.Shape.{q, m}
 use Rattle.scope.specs.Tables.{Index, n, bad, owns_start, owns_id}
 use Rattle.scope.specs.Walk.{Question, distance_of, star_of, opened, tested}
@@ -102,11 +103,11 @@ verdict_local ask marks t g starts ids agree =
     let answers : verdict_answer other marks t g ≡ verdict_answer ask marks t g =
     rw (agree.long_starts, agree.long_ids, ← append-nil (walked other N'), ← append-nil (walked ask N))
     (⊎_elim (λ h. h.2) (λ h. h.2 ∙ sym h.3)
-    (alike ask starts ids N N' a [] [] judged.Refused (judged.Given (verdict_report ask t g N l)) (judged.Given (verdict_report other t g N' (nearest_rivals other)))
+    (alike ask starts ids N N' a [] [] Err (Ok (verdict_report ask t g N l)) (Ok (verdict_report other t g N' (nearest_rivals other)))
     (quiet_handed ask (t ∷ g ∷ []) marks [] tt)
-    (λ e s. (refl, ap judged.Given (ap₂ (λ (k : ℕ) (l : List ℕ). verdict_report other t g k l) e (rivals-same ask starts ids e s) ∙ counts s)))
+    (λ e s. (refl, ap Ok (ap₂ (λ (k : ℕ) (l : List ℕ). verdict_report other t g k l) e (rivals-same ask starts ids e s) ∙ counts s)))
     (compare_verdict ask starts ids agree))) in
-    ap (λ (r : Judged). judges r (lent (of_judged r).0 (mark_words (n x)) [] marks)) answers
+    ap (λ (r : Result VerdictReport Refusal). judges r (lent (of_judged r).0 (mark_words (n x)) [] marks)) answers
 
 -- ---- DEMAND 3, in the blackboard's words: D = m·r + a, and numbers that belong to no bucket in its radius can be changed to anything
 

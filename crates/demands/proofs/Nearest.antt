@@ -1,4 +1,5 @@
 -- Demand 2, the search for the k nearest: over trusted tables it lists the first K of all entries, by distance and then by entry number. Assumes nothing.
+use Rattle.std.specs.Prelude.{Ok, Err}
 use mathlib.Core.Path.{◌≡◌, refl, ◌∙◌}
 use mathlib.Core.Bool.{true}
 use mathlib.Core.List.{List, [], ◌++◌}
@@ -6,7 +7,6 @@ use Prim.Native.Nat.{ℕ}
 use native.Mathlib.Nat.{le_of_eq}
 use native.Mathlib.Omega.{arith}
 use lib.ListN.{length, take, length-take}
-use Rattle.scope.specs.declared.Found.TheVariants.{Listed, Refused}
 use Rattle.scope.specs.Walk.{Question, opened}
 use Rattle.scope.specs.Search.{K, nearest_steps, nearest}
 use Rattle.scope.specs.Refusals.{few_places}
@@ -25,7 +25,7 @@ length-first ask k = rw (length-take, length-every) (omega arith)
 
 module _ (c : Asked) (k : ℕ) (such : NearestCall c k) where
   -- 7 never happens
-  pub nearest_answer_lem : let ask = c.question in nearest_answer c k ≡ Listed (report ask (nearest_steps ask k) (take (K ask.index k) (every_entry ask)))
+  pub nearest_answer_lem : let ask = c.question in nearest_answer c k ≡ Ok (report ask (nearest_steps ask k) (take (K ask.index k) (every_entry ask)))
   unfolding nearest_answer
   nearest_answer_lem =
       let ask = c.question in
@@ -33,9 +33,9 @@ module _ (c : Asked) (k : ℕ) (such : NearestCall c k) where
       let N = nearest_steps ask k in
       let places = few_places (K x k) (room c) in
       let known = nearest_ready c k such in
-      let answer = Listed (report ask N (nearest ask k)) in
-      unless_past (handed ask [] c.marks ++ places) (walked ask N) Refused answer such.taken
-      ∙ unless-none (walked ask N) Refused answer (met-any x (opened ask N) ∙ none-bad ask known.shape known.good N)
+      let answer = Ok (report ask N (nearest ask k)) in
+      unless_past (handed ask [] c.marks ++ places) (walked ask N) Err answer such.taken
+      ∙ unless-none (walked ask N) Err answer (met-any x (opened ask N) ∙ none-bad ask known.shape known.good N)
       ∙ rw (nearest_scan ask known.shape known.good k)
 
   -- the first K of all entries are listed

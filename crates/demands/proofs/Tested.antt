@@ -1,5 +1,6 @@
 -- Tested means what 01 says: the reported count is the number of entries that an opened bucket lists; over trusted tables, of the entries that have
 -- a substring within the opened radius in some table. Assumes nothing.
+use Rattle.std.specs.Prelude.{Ok, Err}
 use mathlib.Core.Path.{◌≡◌, sym, ap, ◌∙◌}
 use mathlib.Core.Bool.{true, ◌&&◌}
 use mathlib.Core.List.{[], ◌∷◌}
@@ -13,7 +14,6 @@ use Rattle.theory.proofs.Lists.{any_one, any-cat_yes, any-cat_at}
 use Rattle.theory.proofs.Counting.{count_cong}
 use Rattle.theory.proofs.Opening.{any-bucket, is_own}
 use Rattle.scope.specs.declared.Report.{Report}
-use Rattle.scope.specs.declared.Found.TheVariants.{Listed, Refused}
 use Rattle.scope.specs.Shape.{m, size, listed}
 use Rattle.scope.specs.Tables.{n, substring_of, sound}
 use Rattle.scope.specs.Walk.{Question, opened, tested}
@@ -33,19 +33,19 @@ use Rattle.theory.proofs.Elements.{any_more}
 
 -- ---- any tables
 
-listed-report : (rows : Rows) (rep rep' : Report) → unless rows Refused (Listed rep) ≡ Listed rep' → rep ≡ rep'
+listed-report : (rows : Rows) (rep rep' : Report) → unless rows Err (Ok rep) ≡ Ok rep' → rep ≡ rep'
 listed-report rows rep rep' e =
-    let none = all-clear Refused (Listed rep) (λ f e. let z : ◌≡◌ {A = ℕ} 0 1 = cc in omega arith) rows e in
-    let r = unless-none rows Refused (Listed rep) none in
+    let none = all-clear Err (Ok rep) (λ f e. let z : ◌≡◌ {A = ℕ} 0 1 = cc in omega arith) rows e in
+    let r = unless-none rows Err (Ok rep) none in
     cc
 
-pub nearest_reports : (c : Asked) (k : ℕ) (rep : Report) → (nearest_end c k).answer ≡ Listed rep → Reported c.question (nearest_steps c.question k) rep
+pub nearest_reports : (c : Asked) (k : ℕ) (rep : Report) → (nearest_end c k).answer ≡ Ok rep → Reported c.question (nearest_steps c.question k) rep
 unfolding nearest_end search_end nearest_answer report tested
 nearest_reports c k rep e =
     let same = listed-report _ (report c.question (nearest_steps c.question k) (nearest c.question k)) rep e in
     record { buckets = sym (ap (λ (r : Report). r.opened.0) same); entries = sym (ap (λ (r : Report). r.tested.0) same) }
 
-pub within_reports : (c : Asked) (r : ℕ) (rep : Report) → (within_end c r).answer ≡ Listed rep → Reported c.question (within_steps c.question.index r) rep
+pub within_reports : (c : Asked) (r : ℕ) (rep : Report) → (within_end c r).answer ≡ Ok rep → Reported c.question (within_steps c.question.index r) rep
 unfolding within_end search_end within_answer report tested
 within_reports c r rep e =
     let same = listed-report _ (report c.question (within_steps c.question.index r) (within c.question r)) rep e in
@@ -86,7 +86,7 @@ tested-candidate ask ls s r a i ha hi = tested-own ask ls s N i hi ∙ same_test
 pub nearest_tests : (c : Asked) (k : ℕ) → NearestCall c k → let ask = c.question in
     let x = ask.index in
     0 < K x k → (r a : ℕ) → a < m x.shape → kth_distance ask (K x k) ≡ m x.shape * r + a
-    → (rep : Report) → (nearest_end c k).answer ≡ Listed rep → rep.tested.0 ≡ count (candidate ask r a) (n x)
+    → (rep : Report) → (nearest_end c k).answer ≡ Ok rep → rep.tested.0 ≡ count (candidate ask r a) (n x)
 unfolding tested
 nearest_tests c k such some r a ha e rep listed =
     let ask = c.question in
@@ -98,7 +98,7 @@ nearest_tests c k such some r a ha e rep listed =
 pub within_tests : (c : Asked) (r : ℕ) → WithinCall c r → let ask = c.question in
     let x = ask.index in
     (r' a : ℕ) → a < m x.shape → r ≡ m x.shape * r' + a
-    → (rep : Report) → (within_end c r).answer ≡ Listed rep → rep.tested.0 ≡ count (candidate ask r' a) (n x)
+    → (rep : Report) → (within_end c r).answer ≡ Ok rep → rep.tested.0 ≡ count (candidate ask r' a) (n x)
 unfolding tested
 within_tests c r such r' a ha e rep listed =
     let ask = c.question in

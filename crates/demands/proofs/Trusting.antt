@@ -1,6 +1,7 @@
 -- Tables that the builder wrote, or the check passed, are sound; what else a call that refusals 1 to 5 do not fit is known to be. Assumes nothing.
+use Rattle.std.specs.Prelude.{Result, Ok, Err}
 use mathlib.Core.Path.{◌≡◌, refl, sym, ap, ◌∙◌}
-use mathlib.Core.Bool.{Bool, true, false, cond}
+use mathlib.Core.Bool.{Bool, true}
 use mathlib.Core.List.{List, [], ◌∷◌, ◌++◌}
 use Prim.Native.Nat.{ℕ}
 use native.Mathlib.Nat.{eq_of_mul-eq-mul_right}
@@ -10,7 +11,6 @@ use Rattle.theory.specs.Lists.{over}
 use Rattle.theory.proofs.Tests.{or-false_left}
 use Rattle.theory.proofs.Lists.{any_append}
 use Rattle.scope.specs.declared.Refusal.{Refusal}
-use Rattle.scope.specs.declared.Checked.TheVariants as checked
 use Rattle.scope.specs.Shape.{listed}
 use Rattle.scope.specs.Tables.{Index, index, n, substring_of, built_starts, built_ids, sound}
 use Rattle.scope.specs.Walk.{Question}
@@ -35,15 +35,12 @@ module _ (x : Index) (stars starts ids : List ℕ) where
 
 -- ---- the check, and the builder
 
-check_yes : (y : Index) → check_answer y ≡ checked.Yes → NoneFits (one_to_three y) × (sound y ≡ true)
+check_yes : (y : Index) → check_answer y ≡ Ok true → NoneFits (one_to_three y) × (sound y ≡ true)
 unfolding check_answer
 check_yes y e =
-    let none = all-clear checked.Refused _ (λ f e. let z : ◌≡◌ {A = ℕ} 0 1 = cc in omega arith) (one_to_three y) e in
-    (none, is_yes (sound y) (sym (unless-none (one_to_three y) checked.Refused (cond (sound y) checked.Yes checked.No) none) ∙ e))
-  where
-    is_yes : (b : Bool) → cond b checked.Yes checked.No ≡ checked.Yes → b ≡ true
-    is_yes true h = refl
-    is_yes false h = absurd (let z : ◌≡◌ {A = ℕ} 0 1 = cc in omega arith)
+    let none = all-clear Err (Ok (sound y)) (λ f e. let z : ◌≡◌ {A = ℕ} 0 1 = cc in omega arith) (one_to_three y) e in
+    let said : ◌≡◌ {A = Result Bool Refusal} (Ok (sound y)) (Ok true) = sym (unless-none (one_to_three y) Err (Ok (sound y)) none) ∙ e in
+    (none, cc)
 
 pub trusted_sound : (x : Index) → NoneFits (one_to_three x) → Trusted x → sound x ≡ true
 unfolding build_end

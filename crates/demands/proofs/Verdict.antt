@@ -1,4 +1,5 @@
 -- The verdict over trusted tables, in words: what match, unsure and none say about the whole catalogue, and how far the walk goes. Assumes nothing.
+use Rattle.std.specs.Prelude.{Ok, Err}
 use mathlib.Core.Path.{◌≡◌, refl, sym, ap, ap₂, subst, ◌∙◌}
 use mathlib.Core.Logic.{inl, inr, ⊎_elim}
 use mathlib.Core.Bool.{Bool, true, false, ◌&&◌, and-true}
@@ -10,7 +11,6 @@ use lib.ListN.{length}
 use borrow.Author.Tests.{ltb-true, ltb-false, lt-ltb, le-ltb, leb-true, le-leb}
 use Rattle.theory.proofs.Tests.{either, lt-or-le, eq-or_ne, both_ways, and_left}
 use Rattle.theory.proofs.Order.{Before, before_asym}
-use Rattle.scope.specs.declared.Judged.TheVariants.{Given, Refused}
 use Rattle.scope.specs.declared.Verdict.{Verdict}
 use Rattle.scope.specs.declared.Verdict.TheVariants.{None, Unsure, Match}
 use Rattle.scope.specs.declared.VerdictReport.{VerdictReport}
@@ -274,17 +274,17 @@ module _ (ask : Question) (ls : listed ask.index.shape ≡ true) (s : sound ask.
 -- ---- the call
 
 module _ (ask : Question) (marks : List ℕ) (t g : ℕ) (such : VerdictCall ask marks t g) where
-  pub verdict_answer_lem : (verdict_end ask marks t g).answer ≡ Given (verdict_report ask t g (verdict_steps ask) (nearest_rivals ask))
+  pub verdict_answer_lem : (verdict_end ask marks t g).answer ≡ Ok (verdict_report ask t g (verdict_steps ask) (nearest_rivals ask))
   unfolding verdict_end verdict_answer
   verdict_answer_lem =
       let N = verdict_steps ask in
       let known = verdict_ready ask marks t g such in
-      let given = Given (verdict_report ask t g N (nearest_rivals ask)) in
-      unless_past (handed ask (t ∷ g ∷ []) marks) (walked ask N) Refused given such.taken
-      ∙ unless-none (walked ask N) Refused given (met-any ask.index (opened ask N) ∙ none-bad ask known.shape known.good N)
+      let given = Ok (verdict_report ask t g N (nearest_rivals ask)) in
+      unless_past (handed ask (t ∷ g ∷ []) marks) (walked ask N) Err given such.taken
+      ∙ unless-none (walked ask N) Err given (met-any ask.index (opened ask N) ∙ none-bad ask known.shape known.good N)
 
   -- the verdict is given, and says this about the whole catalogue
-  pub verdict_says : (rep : VerdictReport) × ((verdict_end ask marks t g).answer ≡ Given rep) × Says (star_of ask) (distance_of ask) (n ask.index) t g rep.verdict
+  pub verdict_says : (rep : VerdictReport) × ((verdict_end ask marks t g).answer ≡ Ok rep) × Says (star_of ask) (distance_of ask) (n ask.index) t g rep.verdict
   unfolding verdict_report
   verdict_says =
       let known = verdict_ready ask marks t g such in (
@@ -299,7 +299,7 @@ module _ (ask : Question) (marks : List ℕ) (t g : ℕ) (such : VerdictCall ask
 
   -- and reports the blackboard's count after its last step R
   pub verdict-count : (R : ℕ) → verdict_steps ask ≡ R + 1
-      → (rep : VerdictReport) × ((verdict_end ask marks t g).answer ≡ Given rep) × (rep.opened.0 ≡ open_after ask.index.shape R)
+      → (rep : VerdictReport) × ((verdict_end ask marks t g).answer ≡ Ok rep) × (rep.opened.0 ≡ open_after ask.index.shape R)
   unfolding verdict_report
   verdict-count R e = (
     verdict_report ask t g (verdict_steps ask) (nearest_rivals ask),

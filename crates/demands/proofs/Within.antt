@@ -1,4 +1,7 @@
 -- Demand 2, the search by radius: over trusted tables it lists exactly the entries differing from the query in r bits or less. Assumes nothing.
+use Rattle.std.specs.Prelude.{Result, Ok, Err}
+use Rattle.scope.specs.declared.Report.{Report}
+use Rattle.scope.specs.declared.Refusal.{Refusal}
 use mathlib.Core.Path.{◌≡◌, refl, ap₂, ◌∙◌}
 use mathlib.Core.Bool.{◌&&◌, cond}
 use mathlib.Core.List.{List, [], ◌∷◌, ◌++◌}
@@ -9,8 +12,6 @@ use lib.ListN.{length}
 use borrow.Author.Tests.{lt-ltb, le-ltb}
 use Rattle.theory.proofs.Placing.{all, length-ranked}
 use Rattle.theory.proofs.Counting.{count-le}
-use Rattle.scope.specs.declared.Found.{Found}
-use Rattle.scope.specs.declared.Found.TheVariants.{Listed, Refused}
 use Rattle.scope.specs.declared.Refusal.TheVariants.{TooMany}
 use Rattle.scope.specs.Tables.{n}
 use Rattle.scope.specs.Walk.{Question, distance_of, opened}
@@ -34,7 +35,7 @@ module _ (c : Asked) (r : ℕ) (such : WithinCall c r) where
   -- 7 never happens, and 6 exactly where the T neighbours exceed the shorter answer list
   pub within_answer_lem : let ask = c.question in
       let T = length (neighbours ask r) in
-      within_answer c r ≡ cond (ltb (room c) T) (Refused (TooMany T)) (Listed (report ask (within_steps ask.index r) (neighbours ask r)))
+      within_answer c r ≡ cond (ltb (room c) T) (Err (TooMany T)) (Ok (report ask (within_steps ask.index r) (neighbours ask r)))
   unfolding within_answer unless
   within_answer_lem =
       let ask = c.question in
@@ -42,22 +43,22 @@ module _ (c : Asked) (r : ℕ) (such : WithinCall c r) where
       let N = within_steps x r in
       let known = within_ready c r such in
       let six = too_many (length (within ask r)) (room c) in
-      let answer = Listed (report ask N (within ask r)) in
-      unless_past (handed ask (r ∷ []) c.marks) (walked ask N ++ six) Refused answer such.taken
-      ∙ unless_past (walked ask N) six Refused answer (met-any x (opened ask N) ∙ none-bad ask known.shape known.good N)
+      let answer = Ok (report ask N (within ask r)) in
+      unless_past (handed ask (r ∷ []) c.marks) (walked ask N ++ six) Err answer such.taken
+      ∙ unless_past (walked ask N) six Err answer (met-any x (opened ask N) ∙ none-bad ask known.shape known.good N)
       ∙ rw (within_scan ask known.shape known.good r)
 
   -- and so the whole end: after 6 too, the first places hold the neighbours
   pub within_end_lem : let ask = c.question in
       let T = length (neighbours ask r) in
       within_end c r
-      ≡ search_end c (cond (ltb (room c) T) (Refused (TooMany T)) (Listed (report ask (within_steps ask.index r) (neighbours ask r))))
+      ≡ search_end c (cond (ltb (room c) T) (Err (TooMany T)) (Ok (report ask (within_steps ask.index r) (neighbours ask r))))
       (min (n ask.index) (room c)) (neighbours ask r)
   unfolding within_end
   within_end_lem =
       let ask = c.question in
       let known = within_ready c r such in
-      ap₂ (λ (a : Found) (l : List ℕ). search_end c a (min (n ask.index) (room c)) l) within_answer_lem (within_scan ask known.shape known.good r)
+      ap₂ (λ (a : Result Report Refusal) (l : List ℕ). search_end c a (min (n ask.index) (room c)) l) within_answer_lem (within_scan ask known.shape known.good r)
 
   -- with room for them, the neighbours are listed
   pub within-lists : length (neighbours c.question r) ≤ room c → Lists c (within_end c r) (neighbours c.question r)
@@ -69,7 +70,7 @@ module _ (c : Asked) (r : ℕ) (such : WithinCall c r) where
       (lists c _ (min (n ask.index) (room c)) l (report ask (within_steps ask.index r) l) refl refl (omega (arith, few ask r)))
 
   -- without, the call is refused 6 with their number
-  pub within-refused : let T = length (neighbours c.question r) in room c < T → (within_end c r).answer ≡ Refused (TooMany T)
+  pub within-refused : let T = length (neighbours c.question r) in room c < T → (within_end c r).answer ≡ Err (TooMany T)
   unfolding within_end search_end
   within-refused h = within_answer_lem ∙ rw (lt-ltb (room c) (length (neighbours c.question r)) h)
 

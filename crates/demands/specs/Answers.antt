@@ -1,9 +1,8 @@
 -- What it means that a search lists exactly some entries in 01's order. Assumes nothing.
-use Rattle.std.specs.Prelude.{◌≡◌, Bool, ◌&&◌, List, map, ℕ, eqb, ltb, length, take}
+use Rattle.std.specs.Prelude.{◌≡◌, Bool, ◌&&◌, List, map, ℕ, eqb, ltb, length, take, Ok}
 use Rattle.theory.specs.Lists.{count, any, has}
 use Rattle.theory.specs.Order.{one_if, times, Sorted, Before}
 use Rattle.scope.specs.declared.Report.{Report}
-use Rattle.scope.specs.declared.Found.TheVariants.{Listed}
 use Rattle.scope.specs.Tables.{n, bucket}
 use Rattle.scope.specs.Walk.{Question, distance_of, opened}
 use Rattle.scope.specs.Calls.{Asked, SearchEnd}
@@ -16,7 +15,7 @@ pub record Exactly (ask : Question) (test : ℕ → Bool) (l : List ℕ) : Type 
 -- a call that ends so lists l: it reports as many answers, and the first places of its two answer lists hold l and l's distances
 pub record Lists (c : Asked) (end : SearchEnd) (l : List ℕ) : Type 0 where
   pub report : Report
-  pub listed : end.answer ≡ Listed report
+  pub listed : end.answer ≡ Ok report
   pub answers : report.answers ≡ length l
   pub entries : take (length l) end.entries ≡ l
   pub distances : take (length l) end.distances ≡ map (distance_of c.question) l

@@ -1,15 +1,18 @@
 -- Writing text into a list. Assumes nothing.
 use mathlib.Core.Path.{◌≡◌, refl, ap, sym, ◌∙◌}
-use mathlib.Core.List.{List, [], ◌∷◌, ◌++◌, append_assoc}
-use Prim.Native.Nat.{ℕ, ◌+◌, ◌*◌, ◌≤◌, ◌<◌}
+use mathlib.Core.List.{List, [], ◌∷◌, ◌++◌, map, append_assoc}
+use Prim.Native.Nat.{ℕ, zero, suc, ◌+◌, ◌*◌, ◌≤◌, ◌<◌}
 use native.Mathlib.Numerals.{add-one}
 use native.Mathlib.Omega.{arith}
-use lib.ListN.{length, get_or, take, set, length-append, length-set}
-use lib.Seq.{sets, take-suc, take_all}
+use lib.ListN.{length, get_or, take, set, length-append}
+use lib.Seq.{sets, take_all}
+use Rattle.std.proofs.lemmas.List.{take_more}
 use Rattle.theory.specs.Lists.{cat}
 use Rattle.theory.proofs.Lists.{sets_append}
 use Rattle.lines.specs.Lines.{answer_line, answer_lines}
-use Rattle.lines.specs.Wrote.{Wrote, Put, Field}
+use Rattle.lines.specs.Text.{line}
+use Rattle.lines.specs.Wrote.{Wrote, Put, text_of, width, room}
+use Rattle.lines.specs.declared.Field.{Field}
 
 pub wrote_none : (l : List ℕ) (at : ℕ) → Wrote l at [] l at
 wrote_none l at = record { list = refl; place = omega arith }
@@ -29,37 +32,70 @@ wrote_more {l} {at} {t} {l₁} {a} {u} {l₂} {b} p q =
 pub wrote_is : {l : List ℕ} {at : ℕ} {t u l' : List ℕ} {r : ℕ} → t ≡ u → Wrote l at t l' r → Wrote l at u l' r
 wrote_is e w = rw e at w
 
--- a field with the byte after it, and what follows
-pub field_more : {most : ℕ} {l : List ℕ} {at : ℕ} {t : List ℕ} {x : ℕ} {l₁ : List ℕ} {a : ℕ} {u l₂ : List ℕ} {b : ℕ}
-    → Field most l at t x l₁ a → Wrote l₁ a u l₂ b → Wrote l at (t ++ x ∷ u) l₂ b
-field_more {t = t} {x = x} {u = u} p q = wrote_is (append_assoc t (x ∷ []) u) (wrote_more p.wrote q)
+pub put_whole : {most : ℕ} {l : List ℕ} {at : ℕ} {t l' : List ℕ} {r : ℕ} → Wrote l at t l' r → length t ≤ most → Put most l at t l' r
+put_whole w h = record { wrote = w; short = omega (arith, w.place) }
 
--- a word, copied byte by byte
-pub record Copying (l : List ℕ) (at : ℕ) (w l' : List ℕ) (i : ℕ) : Type 0 where
-  pub within : i ≤ length w
-  pub wrote : Wrote l at (take i w) l' (at + i)
-  pub same : length l' ≡ length l
+-- ---- a line of fields
 
-pub copying_none : (l : List ℕ) (at : ℕ) (w : List ℕ) → Copying l at w l 0
-copying_none l at w = record { within = omega arith; wrote = record { list = refl; place = omega arith }; same = refl }
+-- the fields, each with a space after it
+abbrev pub spaced : List Field → List ℕ
+spaced [] = []
+spaced (f ∷ fs) = text_of f ++ 32 ∷ spaced fs
 
-pub copying_more : (l : List ℕ) (at : ℕ) (w l' : List ℕ) (i : ℕ) → Copying l at w l' i → i < length w
-    → Copying l at w (set l' (at + i) (get_or w i 0)) (i + 1)
-copying_more l at w l' i h lt =
-    let next : at + i + 1 ≡ at + (i + 1) = omega arith in
-    let some : take i w ++ get_or w i 0 ∷ [] ≡ take (i + 1) w = sym (rw (add-one i) (take-suc w i 0 lt)) in
-    record {
-      within = omega arith;
-      wrote = rw next at (wrote_is some (wrote_more h.wrote (wrote_byte l' (at + i) (get_or w i 0))));
-      same = length-set l' (at + i) (get_or w i 0) ∙ h.same;
-    }
+spaced_more : (fs : List Field) (f : Field) → spaced (fs ++ f ∷ []) ≡ spaced fs ++ (text_of f ++ 32 ∷ [])
+spaced_more [] f = refl
+spaced_more (g ∷ fs) f = ap (λ (t : List ℕ). text_of g ++ 32 ∷ t) (spaced_more fs f) ∙ sym (append_assoc (text_of g) (32 ∷ spaced fs) (text_of f ++ 32 ∷ []))
 
--- the whole word, and the byte after it
-pub copying_all : (l : List ℕ) (at : ℕ) (w l' : List ℕ) (i x : ℕ) → Copying l at w l' i → length w ≤ i
-    → Field (length w + 1) l at w x (set l' (at + i) x) (at + i + 1)
-copying_all l at w l' i x h ge =
-    let some : take i w ≡ w = take_all i w ge in
-    record { wrote = wrote_more (wrote_is some h.wrote) (wrote_byte l' (at + i) x); short = omega (arith, h.within) }
+-- and the last with a line feed
+pub line_is : (fs : List Field) (f : Field) → line (map text_of (fs ++ f ∷ [])) ≡ spaced fs ++ (text_of f ++ 10 ∷ [])
+line_is [] f = refl
+line_is (g ∷ []) f = sym (append_assoc (text_of g) (32 ∷ []) (text_of f ++ 10 ∷ []))
+line_is (g ∷ h ∷ fs) f =
+    ap (λ (t : List ℕ). text_of g ++ 32 ∷ t) (line_is (h ∷ fs) f) ∙ sym (append_assoc (text_of g) (32 ∷ spaced (h ∷ fs)) (text_of f ++ 10 ∷ []))
+
+room_more : (fs : List Field) (f : Field) → room (fs ++ f ∷ []) ≡ room fs + (width f + 1)
+room_more [] f = omega arith
+room_more (g ∷ fs) f = omega (arith, room_more fs f)
+
+room_front : (n : ℕ) (fs : List Field) → room (take n fs) ≤ room fs
+room_front zero fs = omega arith
+room_front (suc n) [] = omega arith
+room_front (suc n) (f ∷ fs) = omega (arith, room_front n fs)
+
+-- the first i fields are written
+pub record Begun (l : List ℕ) (at : ℕ) (fs : List Field) (i : ℕ) (l' : List ℕ) (r : ℕ) : Type 0 where
+  pub wrote : Wrote l at (spaced (take i fs)) l' r
+  pub short : r ≤ at + room (take i fs)
+
+module _ (fs : List Field) (i : ℕ) (d : Field) (lt : i < length fs) where
+  pub next_fits : width (get_or fs i d) + 1 + room (take i fs) ≤ room fs
+  next_fits = omega (arith, ap room (take_more fs i d lt), room_more (take i fs) (get_or fs i d), room_front (i + 1) fs)
+
+  pub begun_more : {l : List ℕ} {at : ℕ} {l₁ : List ℕ} {p : ℕ} {l₂ : List ℕ} {q : ℕ} {l₃ : List ℕ} {r : ℕ} → Begun l at fs i l₁ p
+      → Put (width (get_or fs i d)) l₁ p (text_of (get_or fs i d)) l₂ q → Wrote l₂ q (32 ∷ []) l₃ r → Begun l at fs (i + 1) l₃ r
+  begun_more b f space =
+      let e = take_more fs i d lt in
+      record {
+        wrote = wrote_is (sym (ap spaced e ∙ spaced_more (take i fs) (get_or fs i d))) (wrote_more b.wrote (wrote_more f.wrote space));
+        short = omega (arith, ap room e, room_more (take i fs) (get_or fs i d), b.short, f.short, space.place);
+      }
+
+module _ (fields front : List Field) (last : Field) (e : fields ≡ front ++ last ∷ []) where
+  pub last_fits : room fields ≡ room front + (width last + 1)
+  last_fits = ap room e ∙ room_more front last
+
+  pub front_fits : (i : ℕ) → room (take i front) + (width last + 1) ≤ room fields
+  front_fits i = omega (arith, last_fits, room_front i front)
+
+  pub begun_all : {l : List ℕ} {at i : ℕ} {l₁ : List ℕ} {p : ℕ} {l₂ : List ℕ} {q : ℕ} {l₃ : List ℕ} {r : ℕ} → length front ≤ i → Begun l at front i l₁ p
+      → Put (width last) l₁ p (text_of last) l₂ q → Wrote l₂ q (10 ∷ []) l₃ r → Put (room fields) l at (line (map text_of fields)) l₃ r
+  begun_all {i = i} h b f end =
+      let t : take i front ≡ front = take_all i front h in
+      let w = rw t at b.wrote in
+      record {
+        wrote = wrote_is (sym (ap (λ (fs : List Field). line (map text_of fs)) e ∙ line_is front last)) (wrote_more w (wrote_more f.wrote end));
+        short = omega (arith, ap room t, last_fits, b.short, f.short, end.place);
+      }
 
 -- the lines of the first i answers
 pub record Listing (l₀ : List ℕ) (at : ℕ) (stars entries distances : List ℕ) (n : ℕ) (l : List ℕ) (p i : ℕ) : Type 0 where
@@ -72,13 +108,14 @@ pub listing_none : (l : List ℕ) (at : ℕ) (stars entries distances : List ℕ
 unfolding answer_lines cat
 listing_none l at stars entries distances n = record { within = omega arith; wrote = wrote_none l at; short = omega arith; same = refl }
 
-pub listing_more : (l₀ : List ℕ) (at : ℕ) (stars entries distances : List ℕ) (n : ℕ) (l : List ℕ) (p i s : ℕ) (l' : List ℕ) (r : ℕ)
-    → Listing l₀ at stars entries distances n l p i → i < n → s ≡ get_or stars (get_or entries i 0) 0
-    → Put 33 l p (answer_line (get_or entries i 0) s (get_or distances i 0)) l' r → length l' ≡ length l
-    → Listing l₀ at stars entries distances n l' r (i + 1)
+pub listing_more : (l₀ : List ℕ) (at : ℕ) (stars entries distances : List ℕ) (n : ℕ) (l : List ℕ) (p i : ℕ) {e s d : ℕ} (l' : List ℕ) (r : ℕ)
+    → Listing l₀ at stars entries distances n l p i → i < n → e ≡ get_or entries i 0 → d ≡ get_or distances i 0 → s ≡ get_or stars e 0
+    → Put 33 l p (answer_line e s d) l' r → length l' ≡ length l → Listing l₀ at stars entries distances n l' r (i + 1)
 unfolding answer_lines cat
-listing_more l₀ at stars entries distances n l p i s l' r h lt e w same =
-    let w' : Wrote l p (answer_line (get_or entries i 0) (get_or stars (get_or entries i 0) 0) (get_or distances i 0)) l' r = rw e at w.wrote in
+listing_more l₀ at stars entries distances n l p i {e} {s} {d} l' r h lt entry distance star w same =
+    let there : s ≡ get_or stars (get_or entries i 0) 0 = star ∙ ap (λ (x : ℕ). get_or stars x 0) entry in
+    let w' : Wrote l p (answer_line (get_or entries i 0) (get_or stars (get_or entries i 0) 0) (get_or distances i 0)) l' r =
+    wrote_is (λ j. answer_line (entry j) (there j) (distance j)) w.wrote in
     record {
       within = omega arith;
       wrote = rw (add-one i) (wrote_more h.wrote w');

@@ -1,47 +1,42 @@
 -- 01, "Session program": the lines. Each question's begin with its record number. Assumes nothing.
-use Rattle.std.specs.Prelude.{ℕ, List, [], ◌∷◌, ◌++◌, get_or}
+use Rattle.std.specs.Prelude.{ℕ, List, [], ◌∷◌, ◌++◌, get_or, Result, Ok, Err, codes, decimal}
+use Rattle.scope.specs.declared.VerdictReport.{VerdictReport}
 use Rattle.theory.specs.Lists.{cat}
 use Rattle.scope.specs.declared.Refusal.{Refusal}
 use Rattle.scope.specs.declared.Report.{Report}
-use Rattle.scope.specs.declared.Found.{Found}
-use Rattle.scope.specs.declared.Found.TheVariants as found
 use Rattle.scope.specs.declared.Verdict.{Verdict}
 use Rattle.scope.specs.declared.Verdict.TheVariants as verdict
-use Rattle.scope.specs.declared.Judged.{Judged}
-use Rattle.scope.specs.declared.Judged.TheVariants as judged
-use Rattle.scope.specs.declared.Sky.{Sky}
-use Rattle.scope.specs.declared.Sky.TheVariants as sky
 use Rattle.scope.specs.Refusals.{refusal}
-use Rattle.lines.specs.Text.{decimal, hex, line}
+use Rattle.lines.specs.Text.{hex, line}
 
 -- ---- the words
 
 abbrev pub stars : List ℕ
-stars = 115 ∷ 116 ∷ 97 ∷ 114 ∷ 115 ∷ []
+stars = codes "stars"
 
 abbrev pub bad : List ℕ
-bad = 98 ∷ 97 ∷ 100 ∷ []
+bad = codes "bad"
 
 abbrev pub refused : List ℕ
-refused = 114 ∷ 101 ∷ 102 ∷ 117 ∷ 115 ∷ 101 ∷ 100 ∷ []
+refused = codes "refused"
 
 abbrev pub near : List ℕ
-near = 110 ∷ 101 ∷ 97 ∷ 114 ∷ []
+near = codes "near"
 
 abbrev pub within : List ℕ
-within = 119 ∷ 105 ∷ 116 ∷ 104 ∷ 105 ∷ 110 ∷ []
+within = codes "within"
 
 abbrev pub match : List ℕ
-match = 109 ∷ 97 ∷ 116 ∷ 99 ∷ 104 ∷ []
+match = codes "match"
 
 abbrev pub unsure : List ℕ
-unsure = 117 ∷ 110 ∷ 115 ∷ 117 ∷ 114 ∷ 101 ∷ []
+unsure = codes "unsure"
 
 abbrev pub none : List ℕ
-none = 110 ∷ 111 ∷ 110 ∷ 101 ∷ []
+none = codes "none"
 
 abbrev pub code : List ℕ
-code = 99 ∷ 111 ∷ 100 ∷ 101 ∷ []
+code = codes "code"
 
 -- ---- the lines
 
@@ -69,14 +64,14 @@ unfoldable pub answer_lines : List ℕ → List ℕ → List ℕ → ℕ → Lis
 answer_lines stars entries distances n = cat (λ i. answer_line (get_or entries i 0) (get_or stars (get_or entries i 0) 0) (get_or distances i 0)) n
 
 -- the answer of a search, and how many answers it lists
-abbrev pub answers_of : Found → ℕ
-answers_of (found.Listed report) = report.answers
-answers_of (found.Refused why) = 0
+abbrev pub answers_of : Result Report Refusal → ℕ
+answers_of (Ok report) = report.answers
+answers_of (Err why) = 0
 
-abbrev pub found_lines : List ℕ → ℕ → Found → List ℕ → List ℕ → List ℕ → List ℕ
-found_lines word number (found.Listed report) stars entries distances =
+abbrev pub found_lines : List ℕ → ℕ → Result Report Refusal → List ℕ → List ℕ → List ℕ → List ℕ
+found_lines word number (Ok report) stars entries distances =
     counts_line word number report ++ answer_lines stars entries distances report.answers
-found_lines word number (found.Refused why) _ entries distances = refused_line number why
+found_lines word number (Err why) _ entries distances = refused_line number why
 
 -- `match` star distance; `unsure` star star distance distance; `none`
 abbrev pub verdict_line : ℕ → Verdict → List ℕ
@@ -85,11 +80,11 @@ verdict_line number (verdict.Unsure star other distance farther) =
     line (decimal number ∷ unsure ∷ decimal star ∷ decimal other ∷ decimal distance ∷ decimal farther ∷ [])
 verdict_line number (verdict.Match star distance) = line (decimal number ∷ match ∷ decimal star ∷ decimal distance ∷ [])
 
-abbrev pub judged_line : ℕ → Judged → List ℕ
-judged_line number (judged.Given report) = verdict_line number report.verdict
-judged_line number (judged.Refused why) = refused_line number why
+abbrev pub judged_line : ℕ → Result VerdictReport Refusal → List ℕ
+judged_line number (Ok report) = verdict_line number report.verdict
+judged_line number (Err why) = refused_line number why
 
 -- `code` and 16 lower-case hex digits, highest first
-abbrev pub sky_line : ℕ → Sky → List ℕ
-sky_line number (sky.Code c) = line (decimal number ∷ code ∷ hex 16 c ∷ [])
-sky_line number (sky.Refused why) = refused_line number why
+abbrev pub sky_line : ℕ → Result ℕ Refusal → List ℕ
+sky_line number (Ok c) = line (decimal number ∷ code ∷ hex 16 c ∷ [])
+sky_line number (Err why) = refused_line number why

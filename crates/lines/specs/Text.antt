@@ -1,18 +1,9 @@
--- Numbers as text, and a line of fields. A text is a list of ASCII codes. Assumes nothing.
+-- Numbers as text, and a line of fields. A text is a list of ASCII codes; `decimal` is std's. Assumes nothing.
 use Rattle.std.specs.Prelude.{ℕ, zero, suc, ◌+◌, ◌/◌, ◌%◌, cond, List, [], ◌∷◌, ◌++◌, ltb}
 
 -- the ASCII code of a digit below 16: 0 to 9, then a to f
 abbrev pub digit : ℕ → ℕ
 digit d = cond (ltb d 10) (48 + d) (87 + d)
-
--- a number in decimal: one digit, or the digits of its tenth and the last; at most k + 1 of them
-unfoldable pub decimal_in : ℕ → ℕ → List ℕ
-decimal_in zero n = digit n ∷ []
-decimal_in (suc k) n = cond (ltb n 10) (digit n ∷ []) (decimal_in k (n / 10) ++ digit (n % 10) ∷ [])
-
--- twenty digits hold any number of 64 bits
-unfoldable pub decimal : ℕ → List ℕ
-decimal n = decimal_in 19 n
 
 -- the last k hexadecimal digits, highest first
 unfoldable pub hex : ℕ → ℕ → List ℕ

@@ -1,31 +1,40 @@
-// A session's lines, from answers to bytes. Each function writes from a place of the lent list on, and returns the place after.
+// A session's lines, from answers to bytes. Each function writes from a place of the lent list on, and returns the place after: a writer that holds the list
+// would have to say in each clause that it still lends the same one. No `write!`: no clause says when it does not fail, and no line may fail.
 #![tactic(auto)]
 
-ghost use Rattle.std.specs.Prelude.{◌≡◌, ◌+◌, ◌*◌, ◌≤◌, ◌<◌, length, get_or};
-ghost use Rattle.lines.specs.Text.{decimal, hex, digit};
+ghost use Rattle.std.specs.Prelude.{◌≡◌, ◌+◌, ◌*◌, ◌≤◌, ◌<◌, [], ◌∷◌, ◌++◌, length, get_or, map};
+ghost use Rattle.lines.specs.Text.{hex, digit, line};
 ghost use Rattle.lines.specs.Lines.{stars_line, bad_line, refused_line, counts_line, answer_line, answer_lines, verdict_line, answers_of, found_lines, judged_line, sky_line};
-ghost use Rattle.lines.specs.Wrote.{Wrote, Put, Field};
+ghost use Rattle.lines.specs.Wrote.{Wrote, Put, text_of, width, room};
 
-use scope::{Found, Judged, Refusal, Report, Sky, Verdict};
+use itoa::Buffer;
+use scope::{Refusal, Report, Verdict, VerdictReport};
 
 const SPACE: u8 = 32;
 
 const END: u8 = 10;
 
+// What stands in a line: a word, a number in decimal, or a code in 16 hexadecimal digits.
+#[derive(Clone, Copy)]
+enum Field<'a> {
+    Word(&'a [u8]),
+    Number(u32),
+    Code(u64),
+}
+
+// The first line. It and the line of a bad record have a function each, since each is a line of its own in document 01.
 pub fn put_stars(out: &mut [u8], at: usize, n: u32) -> usize
     requires { at + 64 ≤ length out.old }
     ensures { Put 64 out.old at (stars_line n) out.new result }
 {
-    let a = put_word(out, at, b"stars", SPACE);
-    put_number(out, a, n, END)
+    put_line(out, at, &[Field::Word(b"stars"), Field::Number(n)])
 }
 
 pub fn put_bad(out: &mut [u8], at: usize, number: u32) -> usize
     requires { at + 64 ≤ length out.old }
     ensures { Put 64 out.old at (bad_line number) out.new result }
 {
-    let a = put_word(out, at, b"bad", SPACE);
-    put_number(out, a, number, END)
+    put_line(out, at, &[Field::Word(b"bad"), Field::Number(number)])
 }
 
 // The answer of a search, `word` being near or within: the counts, then a line for each of the first entries and distances.
@@ -34,7 +43,7 @@ pub fn put_found(
     at: usize,
     number: u32,
     word: &[u8],
-    found: Found,
+    found: Result<Report, Refusal>,
     stars: &[u32],
     entries: &[u32],
     distances: &[u32],
@@ -44,40 +53,47 @@ pub fn put_found(
     ensures { Put (64 + 33 * answers_of found) out.old at (found_lines word.now number found stars.now entries.now distances.now) out.new result }
 {
     match found {
-        Found::Listed(report) => {
+        Ok(report) => {
             let a = put_counts(out, at, number, word, report);
             put_answers(out, a, stars, entries, distances, report.answers as usize)
         }
-        Found::Refused(why) => put_refused(out, at, number, why),
+        Err(why) => put_refused(out, at, number, why),
     }
 }
 
-pub fn put_judged(out: &mut [u8], at: usize, number: u32, judged: Judged) -> usize
+pub fn put_judged(
+    out: &mut [u8],
+    at: usize,
+    number: u32,
+    judged: Result<VerdictReport, Refusal>,
+) -> usize
     requires { at + 64 ≤ length out.old }
     ensures { Put 64 out.old at (judged_line number judged) out.new result }
 {
     match judged {
-        Judged::Given(report) => {
+        Ok(report) => {
             let verdict = report.verdict;
             put_verdict(out, at, number, verdict)
         }
-        Judged::Refused(why) => put_refused(out, at, number, why),
+        Err(why) => put_refused(out, at, number, why),
     }
 }
 
-pub fn put_sky(out: &mut [u8], at: usize, number: u32, sky: Sky) -> usize
+pub fn put_sky(out: &mut [u8], at: usize, number: u32, sky: Result<u64, Refusal>) -> usize
     requires { at + 64 ≤ length out.old }
     ensures { Put 64 out.old at (sky_line number sky) out.new result }
 {
     match sky {
-        Sky::Code(code) => {
-            let a = put_number(out, at, number, SPACE);
-            let b = put_word(out, a, b"code", SPACE);
-            let c = put_hex(out, b, 16, code);
-            out[c] = END;
-            c + 1
-        }
-        Sky::Refused(why) => put_refused(out, at, number, why),
+        Ok(code) => put_line(
+            out,
+            at,
+            &[
+                Field::Number(number),
+                Field::Word(b"code"),
+                Field::Code(code),
+            ],
+        ),
+        Err(why) => put_refused(out, at, number, why),
     }
 }
 
@@ -85,26 +101,36 @@ fn put_verdict(out: &mut [u8], at: usize, number: u32, verdict: Verdict) -> usiz
     requires { at + 64 ≤ length out.old }
     ensures { Put 64 out.old at (verdict_line number verdict) out.new result }
 {
-    let a = put_number(out, at, number, SPACE);
+    let number = Field::Number(number);
     match verdict {
-        Verdict::None => put_word(out, a, b"none", END),
+        Verdict::None => put_line(out, at, &[number, Field::Word(b"none")]),
         Verdict::Unsure {
             star,
             other,
             distance,
             farther,
-        } => {
-            let b = put_word(out, a, b"unsure", SPACE);
-            let c = put_number(out, b, star, SPACE);
-            let d = put_number(out, c, other, SPACE);
-            let e = put_number(out, d, distance, SPACE);
-            put_number(out, e, farther, END)
-        }
-        Verdict::Match { star, distance } => {
-            let b = put_word(out, a, b"match", SPACE);
-            let c = put_number(out, b, star, SPACE);
-            put_number(out, c, distance, END)
-        }
+        } => put_line(
+            out,
+            at,
+            &[
+                number,
+                Field::Word(b"unsure"),
+                Field::Number(star),
+                Field::Number(other),
+                Field::Number(distance),
+                Field::Number(farther),
+            ],
+        ),
+        Verdict::Match { star, distance } => put_line(
+            out,
+            at,
+            &[
+                number,
+                Field::Word(b"match"),
+                Field::Number(star),
+                Field::Number(distance),
+            ],
+        ),
     }
 }
 
@@ -112,20 +138,32 @@ fn put_refused(out: &mut [u8], at: usize, number: u32, why: Refusal) -> usize
     requires { at + 64 ≤ length out.old }
     ensures { Put 64 out.old at (refused_line number why) out.new result }
 {
-    let a = put_number(out, at, number, SPACE);
-    let b = put_word(out, a, b"refused", SPACE);
-    put_number(out, b, why.number(), END)
+    put_line(
+        out,
+        at,
+        &[
+            Field::Number(number),
+            Field::Word(b"refused"),
+            Field::Number(why.number()),
+        ],
+    )
 }
 
 fn put_counts(out: &mut [u8], at: usize, number: u32, word: &[u8], report: Report) -> usize
     requires { (length word.now ≤ 8) × (at + 64 ≤ length out.old) }
     ensures { Put 64 out.old at (counts_line word.now number report) out.new result }
 {
-    let a = put_number(out, at, number, SPACE);
-    let b = put_word(out, a, word, SPACE);
-    let c = put_number(out, b, report.answers, SPACE);
-    let d = put_number(out, c, report.opened.0, SPACE);
-    put_number(out, d, report.tested.0, END)
+    put_line(
+        out,
+        at,
+        &[
+            Field::Number(number),
+            Field::Word(word),
+            Field::Number(report.answers),
+            Field::Number(report.opened.0),
+            Field::Number(report.tested.0),
+        ],
+    )
 }
 
 // A line for each of the first n answers.
@@ -140,69 +178,79 @@ fn put_answers(
     requires { (n ≤ length entries.now) × (n ≤ length distances.now) × (at + 33 * n + 64 ≤ length out.old) }
     ensures { Put (33 * n) out.old at (answer_lines stars.now entries.now distances.now n) out.new result }
 {
-    let mut p = at;
-    let mut i = 0;
-    while i < n {
-        let e = entries[i];
-        let d = distances[i];
-        p = put_answer(out, p, e, star_of(stars, e), d);
-        i += 1;
+    let mut place = at;
+    for (&entry, &distance) in entries[..n].iter().zip(&distances[..n]) {
+        place = put_answer(out, place, entry, star_of(stars, entry), distance);
     }
-    p
+    place
 }
 
 fn put_answer(out: &mut [u8], at: usize, entry: u32, star: u32, distance: u32) -> usize
     requires { at + 33 ≤ length out.old }
     ensures { Put 33 out.old at (answer_line entry star distance) out.new result }
 {
-    let a = put_number(out, at, entry, SPACE);
-    let b = put_number(out, a, star, SPACE);
-    put_number(out, b, distance, END)
+    put_line(
+        out,
+        at,
+        &[
+            Field::Number(entry),
+            Field::Number(star),
+            Field::Number(distance),
+        ],
+    )
 }
 
 fn star_of(stars: &[u32], entry: u32) -> u32
     ensures { result ≡ get_or stars.now entry 0 }
 {
-    let i = entry as usize;
-    if i < stars.len() { stars[i] } else { 0 }
+    stars.get(entry as usize).copied().unwrap_or(0)
 }
 
-// A word, and one byte after it.
-fn put_word(out: &mut [u8], at: usize, word: &[u8], end: u8) -> usize
-    requires { at + length word.now + 1 ≤ length out.old }
-    ensures { Field (length word.now + 1) out.old at word.now end out.new result }
+// ---- a line of fields
+
+// The fields with one space between, and a line feed.
+fn put_line(out: &mut [u8], at: usize, fields: &[Field<'_>]) -> usize
+    requires { (0 < length fields.now) × (at + room fields.now ≤ length out.old) }
+    ensures { Put (room fields.now) out.old at (line (map text_of fields.now)) out.new result }
 {
-    let mut i = 0;
-    while i < word.len() {
-        out[at + i] = word[i];
-        i += 1;
+    let Some((last, front)) = fields.split_last() else {
+        return at;
+    };
+    let mut place = at;
+    for field in front {
+        place = put_field(out, place, field);
+        place = put_byte(out, place, SPACE);
     }
-    out[at + i] = end;
-    at + i + 1
+    place = put_field(out, place, last);
+    put_byte(out, place, END)
 }
 
-// A number in decimal, and one byte after it.
-fn put_number(out: &mut [u8], at: usize, n: u32, end: u8) -> usize
-    requires { at + 11 ≤ length out.old }
-    ensures { Field 11 out.old at (decimal n) end out.new result }
+fn put_field(out: &mut [u8], at: usize, field: &Field<'_>) -> usize
+    requires { at + width field.now ≤ length out.old }
+    ensures { Put (width field.now) out.old at (text_of field.now) out.new result }
 {
-    let p = put_digits(out, at, n as u64);
-    out[p] = end;
-    p + 1
-}
-
-fn put_digits(out: &mut [u8], at: usize, n: u64) -> usize
-    requires { at + length (decimal n) ≤ length out.old }
-    ensures { Wrote out.old at (decimal n) out.new result }
-{
-    if n < 10 {
-        out[at] = glyph(n);
-        at + 1
-    } else {
-        let p = put_digits(out, at, n / 10);
-        out[p] = glyph(n % 10);
-        p + 1
+    match *field {
+        Field::Word(word) => put_text(out, at, word),
+        Field::Number(n) => put_text(out, at, Buffer::new().format(n).as_bytes()),
+        Field::Code(code) => put_hex(out, at, 16, code),
     }
+}
+
+fn put_byte(out: &mut [u8], at: usize, byte: u8) -> usize
+    requires { at < length out.old }
+    ensures { Wrote out.old at (byte ∷ []) out.new result }
+{
+    out[at] = byte;
+    at + 1
+}
+
+fn put_text(out: &mut [u8], at: usize, text: &[u8]) -> usize
+    requires { at + length text.now ≤ length out.old }
+    ensures { Wrote out.old at text.now out.new result }
+{
+    let after = at + text.len();
+    out[at..after].copy_from_slice(text);
+    after
 }
 
 // The last k hexadecimal digits of n.

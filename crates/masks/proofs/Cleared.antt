@@ -1,16 +1,15 @@
 -- A mask without its lowest ones. Assumes nothing.
-use mathlib.Core.Path.{◌≡◌, refl, sym, ap, ap₂, ◌∙◌}
+use mathlib.Core.Path.{◌≡◌, refl, ap, ap₂, ◌∙◌}
 use mathlib.Core.Logic.{⊎_elim}
-use Prim.Native.Nat.{ℕ, suc, ◌+◌, ◌-◌, ◌*◌, ◌%◌, ◌^◌, ◌≤◌, ◌<◌}
+use Prim.Native.Nat.{ℕ, suc, ◌+◌, ◌-◌, ◌*◌, ◌^◌, ◌≤◌, ◌<◌}
 use native.Mathlib.Nat.{pow-suc, mul-le-mul_right}
 use native.Mathlib.Omega.{arith}
 use lib.Bits.{bit_and, and_block, and_self}
 use lib.Count.{ones, ones_cat}
-use lib.Pow.{pow_pos, pow_mono, pow-add, low, ones_lt}
+use lib.Pow.{pow_pos, pow_mono, pow-add, ones_lt}
 use Rattle.theory.proofs.Tests.{lt-or-le}
 use Rattle.theory.proofs.Digits.{odd_part}
 use Rattle.theory.proofs.Under.{no_ones}
-use Rattle.masks.specs.Masks.{Lowest}
 
 -- rest is the mask from some place on; below that place it has i ones
 pub record Cleared (under i rest : ℕ) : Type 0 where
@@ -41,9 +40,6 @@ without b t =
     ∙ omega (arith, ap (λ (q : ℕ). b * q) (pow-suc 2 t))
 
 module _ (under i rest : ℕ) (c : Cleared under i rest) where
-  pub cleared-le : rest ≤ under
-  cleared-le = let w = c.whole in let r = c.rest_is in omega arith
-
   pub cleared_some : i < ones under → 0 < rest
   cleared_some l =
       let all = ap ones c.whole ∙ ones_cat c.place c.above c.below c.low in
@@ -75,14 +71,3 @@ module _ (under i rest : ℕ) (c : Cleared under i rest) where
             rest_is = ap (λ (n : ℕ). bit_and n (n - 1)) (c.rest_is ∙ up) ∙ without b q;
             many = omega (arith, ones_cat q 1 c.below low, one_one);
           }
-
-  pub cleared-all : Lowest under i (under - rest)
-  cleared-all =
-      let w = c.whole in
-      let r = c.rest_is in
-      let same : under - rest ≡ c.below = omega arith in
-      record {
-        place = c.place;
-        part = same ∙ sym (ap (λ (n : ℕ). n % 2 ^ c.place) c.whole ∙ low c.above c.place c.low);
-        many = ap ones same ∙ c.many;
-      }

@@ -13,20 +13,20 @@ fn lowest(under: usize, k: u32) -> usize
     ensures { Lowest under k result }
 {
     let mut rest = under;
-    let mut i = 0;
-    while i < k {
-        rest = rest & (rest - 1);
-        i += 1;
+    for _ in 0..k {
+        rest &= rest - 1;
     }
     under - rest
 }
 
-// The smallest number with r ones under the mask; 65536 if the mask has fewer.
+// A mask is a usize below 65536 and no u16, since a bucket's number is a usize.
+
+// The smallest number with r ones under the mask; 65536 if the mask has fewer, which is above every bucket of a table: one test then ends a step, where an Option would need two.
 pub fn first(under: usize, r: u32) -> usize
     requires { under < 65536 }
     ensures { result ≡ first_from (has_ones under r) 0 65536 }
 {
-    if usize::count_ones(under) < r {
+    if under.count_ones() < r {
         return 65536;
     }
     lowest(under, r)
@@ -37,9 +37,9 @@ fn place(under: usize, e: usize) -> usize
     requires { (under < 65536) × (e < 65536) }
     ensures { result ≡ carry_place under e }
 {
-    let t = usize::trailing_zeros((e & under) + 65536);
+    let t = ((e & under) + 65536).trailing_zeros();
     let fill = under & ((1 << t) - 1);
-    usize::trailing_zeros(e + fill + 1) as usize
+    (e + fill + 1).trailing_zeros() as usize
 }
 
 // The smallest number above e with as many ones under the mask, which are r: e with a one at that place, and below it the lowest of the mask's ones, as many as are missing.
@@ -49,6 +49,6 @@ pub fn next(under: usize, r: u32, e: usize) -> usize
 {
     let p = place(under, e);
     let up = ((e >> p) + 1) << p;
-    let missing = r - usize::count_ones(up & under);
+    let missing = r - (up & under).count_ones();
     up + lowest(under, missing)
 }

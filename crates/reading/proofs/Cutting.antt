@@ -1,19 +1,18 @@
 -- A record read by itself means what it means in the input. Assumes nothing.
 use mathlib.Core.Path.{◌≡◌, refl, ap, sym, ◌∙◌}
-use mathlib.Core.Bool.{cond}
 use mathlib.Core.List.{List}
 use mathlib.Core.Logic.{⊎_elim}
 use Prim.Native.Nat.{ℕ, zero, suc, ◌+◌, ◌≤◌, ◌<◌}
 use native.Mathlib.Omega.{arith}
-use lib.Dec.{leb}
 use lib.ListN.{length, take, drop}
 use lib.Seq.{get_or-take, take_all, take-take, take-add, drop_at, length-take-le}
+use Rattle.std.specs.Prelude.{Option, Some, Result}
 use Rattle.theory.proofs.Tests.{lt-or-le}
 use Rattle.reading.specs.Bytes.{number_at}
-use Rattle.reading.specs.Records.{front_of, record_of, by_front, meaning_of, wanted, chunk_of}
+use Rattle.reading.specs.Records.{◌>>=◌, front_of, record_of, by_front, wanted, chunk_of}
 use Rattle.reading.specs.declared.Session.{Session}
-use Rattle.reading.specs.declared.Front.TheVariants.{Long, Whole}
-use Rattle.reading.specs.declared.Record.TheVariants.{Bad}
+use Rattle.reading.specs.declared.Bad.{Bad}
+use Rattle.reading.specs.declared.Front.{Front}
 use Rattle.reading.proofs.Cases.{front_long, front_whole, wanted_long, wanted_is}
 
 pub number-take : (k : ℕ) (s : List ℕ) (at m : ℕ) → at + k ≤ m → number_at k (take m s) at ≡ number_at k s at
@@ -40,10 +39,9 @@ module _ (session : Session) (s : List ℕ) where
   cut_long h l =
       let n : 4 ≤ length (take 4 s) = omega (arith, length-take-le 4 s h) in
       let e : number_at 2 (take 4 s) 0 ≡ number_at 2 s 0 = number-take 2 s 0 4 (omega arith) in
-      let f : Long ≡ front_of (take 4 s) = front_long (take 4 s) _ refl (some (take 4 s) n) n (rw e l) in
-      let g : Long ≡ front_of s = front_long s _ refl (some s h) h l in
-      ap (λ (m : ℕ). by_front session (take (4 + m) s) (front_of (take (4 + m) s))) (wanted_long s h l)
-      ∙ ap (by_front session (take 4 s)) (sym f) ∙ ap (by_front session s) g
+      ap (λ (m : ℕ). front_of (take (4 + m) s) >>= by_front session (take (4 + m) s)) (wanted_long s h l)
+      ∙ ap (λ (f : Result (Option Front) Bad). f >>= by_front session (take 4 s)) (front_long (take 4 s) (some (take 4 s) n) n (rw e l))
+      ∙ sym (ap (λ (f : Result (Option Front) Bad). f >>= by_front session s) (front_long s (some s h) h l))
 
   cut_whole : 4 ≤ length s → number_at 2 s 0 ≤ 8193 → 4 + number_at 2 s 0 ≤ length s → record_of session (chunk_of s) ≡ record_of session s
   unfolding chunk_of record_of
@@ -53,13 +51,14 @@ module _ (session : Session) (s : List ℕ) where
       let len : length c ≡ 4 + n = length-take-le (4 + n) s k in
       let m : 4 ≤ length c = omega arith in
       let e : number_at 2 c 0 ≡ n = number-take 2 s 0 (4 + n) (omega arith) in
-      let f : Whole n (number_at 2 s 2) ≡ front_of c =
-      front_whole c n (sym e) (some c m) m (number_at 2 s 2) l (omega arith) (sym (number-take 2 s 2 (4 + n) (omega arith))) in
-      let g : Whole n (number_at 2 s 2) ≡ front_of s = front_whole s n refl (some s h) h (number_at 2 s 2) l k refl in
-      ap (λ (j : ℕ). by_front session (take (4 + j) s) (front_of (take (4 + j) s))) (wanted_is s h l)
-      ∙ ap (by_front session c) (sym f)
-      ∙ ap (λ (b : List ℕ). cond (leb 65535 session.records) Bad (meaning_of session (number_at 2 s 2) b)) (body_take n s k)
-      ∙ ap (by_front session s) g
+      let i : number_at 2 c 2 ≡ number_at 2 s 2 = number-take 2 s 2 (4 + n) (omega arith) in
+      let f = front_whole c (some c m) m (omega arith) (omega arith) in
+      let g = front_whole s (some s h) h l k in
+      ap (λ (j : ℕ). front_of (take (4 + j) s) >>= by_front session (take (4 + j) s)) (wanted_is s h l)
+      ∙ ap (λ (f : Result (Option Front) Bad). f >>= by_front session c) f
+      ∙ (λ j. by_front session c (Some (record { length = e j; kind = i j })))
+      ∙ (rw (body_take n s k))
+      ∙ sym (ap (λ (f : Result (Option Front) Bad). f >>= by_front session s) g)
 
   pub cut : record_of session (chunk_of s) ≡ record_of session s
   cut =

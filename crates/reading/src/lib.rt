@@ -1,16 +1,17 @@
 // A session's records, from bytes to what they mean. No input and no output.
 #![tactic(auto)]
 
-ghost use Rattle.std.specs.Prelude.{◌≡◌, ◌+◌, ◌*◌, ◌≤◌, ◌<◌, ◌||◌, eqb, length};
+ghost use Rattle.std.specs.Prelude.{◌≡◌, ◌+◌, ◌*◌, ◌≤◌, ◌<◌, length, IsTrue, Option, Some, Result, Ok};
 ghost use Rattle.std.specs.Float.{binary64};
 ghost use Rattle.std.specs.Float.Ieee.{of_bits};
 ghost use Rattle.theory.specs.Lists.{over};
 ghost use Rattle.reading.specs.Bytes.{number_at};
-ghost use Rattle.reading.specs.Records.{front_of, wanted, code_at, head_of, head_in, tables_head_in, entry_in, nearest_in, within_in, verdict_in, sky_in, question_in, meaning_of, record_of};
-ghost use Rattle.reading.specs.State.{start_of, number_of, next_of};
+ghost use Rattle.reading.specs.Records.{front_of, wanted, kind_of, unit_of, code_at, code_behind, head_of, head_in, tables_head_in, entry_in, nearest_in, within_in, verdict_in, sky_in, body_in, takes, meaning_of, record_of};
+ghost use Rattle.reading.specs.State.{start_of, number_of, next_of, Room};
 ghost use Rattle.reading.specs.Offsets.{angles_at, across_of, up_of};
 
 use scope::Unit;
+use std::num::f64_from_bits_with_nan;
 
 const LONGEST_BODY: usize = 8193;
 
@@ -23,8 +24,55 @@ const ACROSS: usize = 5;
 
 const UP: usize = 13;
 
-// What a session has read: how many records, the head's w and m (0 before the head), how many entries, and whether a question came.
-#[derive(Clone, Copy)]
+// A record that is bad. A session prints the same of each.
+#[derive(Clone, Copy, Debug, PartialEq, Eq)]
+pub struct Bad;
+
+// What stands at the front of the bytes that are left of the input: the body's length and the kind's number, which need not be a kind.
+#[derive(Clone, Copy, Debug, PartialEq, Eq)]
+pub struct Front {
+    pub length: usize,
+    pub kind: u32,
+}
+
+#[derive(Clone, Copy, Debug, PartialEq, Eq)]
+pub enum Kind {
+    Head,
+    Entry,
+    Nearest,
+    Within,
+    Verdict,
+    Sky,
+    TablesHead,
+}
+
+// A code of one or two words; the second is 0 where there is one.
+#[derive(Clone, Copy, Debug, PartialEq, Eq)]
+pub struct Code {
+    pub low: u64,
+    pub high: u64,
+}
+
+// What is asked: k, r, or t and g, with a code; or the unit and the number of stars, whose angles stay in the body.
+#[derive(Clone, Copy, Debug, PartialEq, Eq)]
+pub enum Question {
+    Nearest(u32, Code),
+    Within(u32, Code),
+    Verdict(u32, u32, Code),
+    Sky(Unit, usize),
+}
+
+// What a record means: a head's w and m, an entry's star and code, or a question.
+#[derive(Clone, Copy, Debug, PartialEq, Eq)]
+pub enum Record {
+    Head(u32, u32),
+    Entry(u32, Code),
+    Ask(Question),
+}
+
+// What a session has read: how many records, the head's w and m, how many entries, and whether a question came.
+// w is 0 before the head, and no Option: `never_refused` and each question after the head speak of its words.
+#[derive(Clone, Copy, Debug, PartialEq, Eq)]
 pub struct Session {
     pub records: u32,
     pub words: u32,
@@ -33,118 +81,199 @@ pub struct Session {
     pub asked: bool,
 }
 
-// What stands at the front of the bytes that are left of the input; of a whole record the body's length and the kind.
-#[derive(Clone, Copy)]
-pub enum Front {
-    End,
-    Cut,
-    Long,
-    Whole(usize, u32),
-}
+impl Session {
+    // A session before its first record.
+    pub fn start() -> Session
+        ensures { result ≡ start_of }
+    {
+        Session {
+            records: 0,
+            words: 0,
+            tables: 0,
+            entries: 0,
+            asked: false,
+        }
+    }
 
-// A code of one or two words; the second is 0 where there is one.
-#[derive(Clone, Copy)]
-pub struct Code {
-    pub low: u64,
-    pub high: u64,
-}
+    // The record at the front of s, the bytes that are left, whether s ends with it or goes on; None where the input ends.
+    #[tactic(auto, unfolding(crate::specs::Records::record_of))]
+    pub fn next_record(self, s: &[u8]) -> Result<Option<Record>, Bad>
+        ensures { result ≡ record_of self s.now }
+    {
+        let Some(front) = front_of(s)? else {
+            return Ok(None);
+        };
+        if MOST_RECORDS <= self.records {
+            return Err(Bad);
+        }
+        let end = 4 + front.length;
+        let record = self.meaning(front.kind, &s[4..end])?;
+        Ok(Some(record))
+    }
 
-// What is asked: k, r, or t and g, with a code; or the unit and the number of stars, whose angles stay in the body.
-#[derive(Clone, Copy)]
-pub enum Question {
-    Nearest(u32, Code),
-    Within(u32, Code),
-    Verdict(u32, u32, Code),
-    Sky(Unit, usize),
-}
+    // The next record's number. No session has more than 65,535 records before it.
+    pub fn number(self) -> u32
+        ensures { result ≡ number_of self }
+    {
+        self.records.min(MOST_RECORDS) + 1
+    }
 
-// What a record means; Over where the input ends.
-#[derive(Clone, Copy)]
-pub enum Record {
-    Over,
-    Bad,
-    Head(u32, u32),
-    Entry(u32, Code),
-    Ask(Question),
-}
+    // What is known after a record.
+    pub fn next(self, rec: Record) -> Session
+        requires { Room self rec }
+        ensures { result ≡ next_of self (Ok (Some rec)) }
+    {
+        let known = Session {
+            records: self.number(),
+            ..self
+        };
+        match rec {
+            Record::Head(w, m) => Session {
+                words: w,
+                tables: m,
+                ..known
+            },
+            Record::Entry(_, _) => Session {
+                entries: self.entries + 1,
+                ..known
+            },
+            Record::Ask(_) => Session {
+                asked: true,
+                ..known
+            },
+        }
+    }
 
-// The record at the front of s, the bytes that are left, whether s ends with it or goes on.
-pub fn next_record(session: Session, s: &[u8]) -> Record
-    ensures { result ≡ record_of session s.now }
-{
-    match front_of(s) {
-        Front::End => Record::Over,
-        Front::Cut => Record::Bad,
-        Front::Long => Record::Bad,
-        Front::Whole(n, kind) => {
-            if MOST_RECORDS <= session.records {
-                return Record::Bad;
-            }
-            let end = 4 + n;
-            meaning(session, kind, &s[4..end])
+    // What a record of this kind and body means here.
+    #[tactic(auto, unfolding(crate::specs::Records::meaning_of))]
+    fn meaning(self, number: u32, body: &[u8]) -> Result<Record, Bad>
+        ensures { result ≡ meaning_of self number body.now }
+    {
+        let kind = Kind::try_from(number)?;
+        if !self.takes(kind) {
+            return Err(Bad);
+        }
+        self.record(kind, body)
+    }
+
+    // Whether a record of this kind may stand here: the head first, then entries, then questions.
+    fn takes(self, kind: Kind) -> bool
+        ensures { result ≡ takes self kind }
+    {
+        match kind {
+            Kind::Head | Kind::TablesHead => self.words == 0,
+            Kind::Entry => self.words != 0 && !self.asked && self.entries < MOST_ENTRIES,
+            Kind::Nearest | Kind::Within | Kind::Verdict | Kind::Sky => self.words != 0,
+        }
+    }
+
+    // What the body b of a kind that may stand here means.
+    fn record(self, kind: Kind, b: &[u8]) -> Result<Record, Bad>
+        requires { IsTrue (takes self kind) }
+        ensures { result ≡ body_in kind self.words b.now }
+    {
+        match kind {
+            Kind::Head => head(b),
+            Kind::TablesHead => tables_head(b),
+            Kind::Entry => self.behind_head(b).entry(),
+            Kind::Nearest => self.behind_head(b).nearest(),
+            Kind::Within => self.behind_head(b).within(),
+            Kind::Verdict => self.behind_head(b).verdict(),
+            Kind::Sky => sky(b),
+        }
+    }
+
+    // The body of a record behind the head, whose codes have the session's words.
+    fn behind_head(self, bytes: &[u8]) -> Body<'_>
+        requires { 0 < self.words }
+        ensures { (result.words ≡ self.words) × (result.bytes.now ≡ bytes.now) }
+    {
+        Body {
+            words: self.words,
+            bytes,
         }
     }
 }
 
-// A session before its first record.
-pub fn start() -> Session
-    ensures { result ≡ start_of }
-{
-    Session {
-        records: 0,
-        words: 0,
-        tables: 0,
-        entries: 0,
-        asked: false,
+// A body that ends with a code of so many words.
+#[derive(Clone, Copy)]
+struct Body<'a> {
+    words: u32,
+    bytes: &'a [u8],
+    ghost some_words: { 0 < words },
+}
+
+impl Body<'_> {
+    fn entry(self) -> Result<Record, Bad>
+        ensures { result ≡ entry_in self.entry.words self.entry.bytes.now }
+    {
+        let code = self.code_behind(4)?;
+        Ok(Record::Entry(four_at(self.bytes, 0), code))
+    }
+
+    fn nearest(self) -> Result<Record, Bad>
+        ensures { result ≡ nearest_in self.entry.words self.entry.bytes.now }
+    {
+        let code = self.code_behind(2)?;
+        Ok(Record::Ask(Question::Nearest(two_at(self.bytes, 0), code)))
+    }
+
+    fn within(self) -> Result<Record, Bad>
+        ensures { result ≡ within_in self.entry.words self.entry.bytes.now }
+    {
+        let code = self.code_behind(2)?;
+        Ok(Record::Ask(Question::Within(two_at(self.bytes, 0), code)))
+    }
+
+    fn verdict(self) -> Result<Record, Bad>
+        ensures { result ≡ verdict_in self.entry.words self.entry.bytes.now }
+    {
+        let code = self.code_behind(4)?;
+        let b = self.bytes;
+        Ok(Record::Ask(Question::Verdict(two_at(b, 0), two_at(b, 2), code)))
+    }
+
+    // The code that ends the body, behind `at` bytes.
+    fn code_behind(self, at: usize) -> Result<Code, Bad>
+        requires { at ≤ 8 }
+        ensures { result ≡ code_behind at self.entry.words self.entry.bytes.now }
+    {
+        let b = self.bytes;
+        if b.len() != at + 8 * (self.words as usize) {
+            return Err(Bad);
+        }
+        let low = eight_at(b, at);
+        let high = if self.words == 2 {
+            eight_at(b, at + 8)
+        } else {
+            0
+        };
+        Ok(Code { low, high })
     }
 }
 
-// The next record's number. No session has more than 65,535 records before it.
-pub fn number_of(session: Session) -> u32
-    ensures { result ≡ number_of session }
-{
-    let n = session.records;
-    if n < 65535 { n + 1 } else { 65536 }
-}
+impl TryFrom<u32> for Kind {
+    type Error = Bad;
 
-pub fn with_head(session: Session, w: u32, m: u32) -> Session
-    ensures { result ≡ next_of session (Record.Head w m) }
-{
-    Session {
-        records: number_of(session),
-        words: w,
-        tables: m,
-        entries: session.entries,
-        asked: session.asked,
-    }
-}
+    ghost try_from_gives = { λ number r. r ≡ kind_of number };
 
-pub fn with_entry(session: Session, star: u32, code: Code) -> Session
-    requires { session.entries < 512 }
-    ensures { result ≡ next_of session (Record.Entry star code) }
-{
-    Session {
-        records: number_of(session),
-        words: session.words,
-        tables: session.tables,
-        entries: session.entries + 1,
-        asked: session.asked,
-    }
-}
-
-pub fn with_question(session: Session, question: Question) -> Session
-    ensures { result ≡ next_of session (Record.Ask question) }
-{
-    Session {
-        records: number_of(session),
-        words: session.words,
-        tables: session.tables,
-        entries: session.entries,
-        asked: true,
+    fn try_from(number: u32) -> Result<Kind, Bad> {
+        match number {
+            1 => Ok(Kind::Head),
+            2 => Ok(Kind::Entry),
+            3 => Ok(Kind::Nearest),
+            4 => Ok(Kind::Within),
+            5 => Ok(Kind::Verdict),
+            6 => Ok(Kind::Sky),
+            7 => Ok(Kind::TablesHead),
+            _ => Err(Bad),
+        }
     }
 }
 
 // How many bytes of body to read after the first 4 bytes of a record; 0 where there are fewer, or the body is too long.
+// No Option: 0 is a number of bytes, and in each case none is to be read.
+#[tactic(auto, unfolding(crate::specs::Records::wanted))]
 pub fn body_length(s: &[u8]) -> usize
     ensures { (result ≡ wanted s.now) × (result ≤ 8193) }
 {
@@ -158,193 +287,85 @@ pub fn body_length(s: &[u8]) -> usize
     n
 }
 
-fn front_of(s: &[u8]) -> Front
+fn front_of(s: &[u8]) -> Result<Option<Front>, Bad>
     ensures { result ≡ front_of s.now }
 {
-    if s.len() == 0 {
-        return Front::End;
+    if s.is_empty() {
+        return Ok(None);
     }
     if s.len() < 4 {
-        return Front::Cut;
+        return Err(Bad);
     }
-    let n = two_at(s, 0) as usize;
-    if LONGEST_BODY < n {
-        return Front::Long;
+    let length = two_at(s, 0) as usize;
+    if LONGEST_BODY < length {
+        return Err(Bad);
     }
-    if s.len() < 4 + n {
-        return Front::Cut;
+    if s.len() < 4 + length {
+        return Err(Bad);
     }
     let kind = two_at(s, 2);
-    Front::Whole(n, kind)
+    Ok(Some(Front { length, kind }))
 }
 
-// What a record of this kind and body means here: the head first, then entries, then questions.
-fn meaning(session: Session, kind: u32, b: &[u8]) -> Record
-    ensures { result ≡ meaning_of session kind b.now }
-{
-    let w = session.words;
-    if kind == 1 {
-        if w == 0 {
-            return head(b);
-        }
-        return Record::Bad;
-    }
-    if kind == 7 {
-        if w == 0 {
-            return tables_head(b);
-        }
-        return Record::Bad;
-    }
-    if w == 0 {
-        return Record::Bad;
-    }
-    if kind == 2 {
-        if session.asked {
-            return Record::Bad;
-        }
-        if MOST_ENTRIES <= session.entries {
-            return Record::Bad;
-        }
-        return entry(w, b);
-    }
-    question_in(w, kind, b)
-}
+// ---- the body of each kind, a code being w words
 
-fn question_in(w: u32, kind: u32, b: &[u8]) -> Record
-    requires { 0 < w }
-    ensures { result ≡ question_in w kind b.now }
-{
-    match kind {
-        3 => nearest(w, b),
-        4 => within(w, b),
-        5 => verdict(w, b),
-        6 => sky(b),
-        _ => Record::Bad,
-    }
-}
-
-fn head(b: &[u8]) -> Record
+fn head(b: &[u8]) -> Result<Record, Bad>
     ensures { result ≡ head_in b.now }
 {
-    if b.len() != 2 {
-        return Record::Bad;
+    match b {
+        [w, 8] => head_of(u32::from(*w), 8 * u32::from(*w)),
+        _ => Err(Bad),
     }
-    if b[1] != 8 {
-        return Record::Bad;
-    }
-    let w = byte(b[0]);
-    head_of(w, 64 * w / 8)
 }
 
-fn tables_head(b: &[u8]) -> Record
+fn tables_head(b: &[u8]) -> Result<Record, Bad>
     ensures { result ≡ tables_head_in b.now }
 {
-    if b.len() != 2 {
-        return Record::Bad;
+    match b {
+        [w, m] => head_of(u32::from(*w), u32::from(*m)),
+        _ => Err(Bad),
     }
-    head_of(byte(b[0]), byte(b[1]))
-}
-
-fn one_or_two(w: u32) -> bool
-    ensures { result ≡ (eqb w 1 || eqb w 2) }
-{
-    if w == 1 {
-        return true;
-    }
-    w == 2
 }
 
 // A head that names w words and m tables.
-fn head_of(w: u32, m: u32) -> Record
+fn head_of(w: u32, m: u32) -> Result<Record, Bad>
+    requires { w < 256 }
     ensures { result ≡ head_of w m }
 {
-    if !one_or_two(w) {
-        return Record::Bad;
+    if w != 1 && w != 2 {
+        return Err(Bad);
     }
     let q = 64 * w;
     if m < q / 8 {
-        return Record::Bad;
+        return Err(Bad);
     }
     if q / 4 < m {
-        return Record::Bad;
+        return Err(Bad);
     }
-    Record::Head(w, m)
+    Ok(Record::Head(w, m))
 }
 
-fn entry(w: u32, b: &[u8]) -> Record
-    requires { 0 < w }
-    ensures { result ≡ entry_in w b.now }
-{
-    if b.len() != 4 + 8 * (w as usize) {
-        return Record::Bad;
-    }
-    let star = number_at(b, 0, 4) as u32;
-    let code = code_at(w, b, 4);
-    Record::Entry(star, code)
-}
-
-fn nearest(w: u32, b: &[u8]) -> Record
-    requires { 0 < w }
-    ensures { result ≡ nearest_in w b.now }
-{
-    if b.len() != 2 + 8 * (w as usize) {
-        return Record::Bad;
-    }
-    let k = two_at(b, 0);
-    let code = code_at(w, b, 2);
-    Record::Ask(Question::Nearest(k, code))
-}
-
-fn within(w: u32, b: &[u8]) -> Record
-    requires { 0 < w }
-    ensures { result ≡ within_in w b.now }
-{
-    if b.len() != 2 + 8 * (w as usize) {
-        return Record::Bad;
-    }
-    let radius = two_at(b, 0);
-    let code = code_at(w, b, 2);
-    Record::Ask(Question::Within(radius, code))
-}
-
-fn verdict(w: u32, b: &[u8]) -> Record
-    requires { 0 < w }
-    ensures { result ≡ verdict_in w b.now }
-{
-    if b.len() != 4 + 8 * (w as usize) {
-        return Record::Bad;
-    }
-    let reach = two_at(b, 0);
-    let gap = two_at(b, 2);
-    let code = code_at(w, b, 4);
-    Record::Ask(Question::Verdict(reach, gap, code))
-}
-
-fn sky(b: &[u8]) -> Record
+fn sky(b: &[u8]) -> Result<Record, Bad>
     ensures { result ≡ sky_in b.now }
 {
     if b.len() % 16 != 1 {
-        return Record::Bad;
+        return Err(Bad);
     }
-    match b[0] {
-        1 => Record::Ask(Question::Sky(Unit::Degrees, b.len() / 16)),
-        2 => Record::Ask(Question::Sky(Unit::Radians, b.len() / 16)),
-        _ => Record::Bad,
+    let unit = unit_of(b[0])?;
+    Ok(Record::Ask(Question::Sky(unit, b.len() / 16)))
+}
+
+fn unit_of(byte: u8) -> Result<Unit, Bad>
+    ensures { result ≡ unit_of byte }
+{
+    match byte {
+        1 => Ok(Unit::Degrees),
+        2 => Ok(Unit::Radians),
+        _ => Err(Bad),
     }
 }
 
-// The code of w words from place `at` on.
-fn code_at(w: u32, b: &[u8], at: usize) -> Code
-    requires { (0 < w) × (at + 8 * w ≤ length b.now) }
-    ensures { result ≡ code_at w b.now at }
-{
-    let low = number_at(b, at, 8);
-    if w == 2 {
-        let high = number_at(b, at + 8, 8);
-        return Code { low, high };
-    }
-    Code { low, high: 0 }
-}
+// ---- the angles of a sky record
 
 // The angles of the n stars of a sky record s, written to the front of two lists.
 pub fn read_offsets(s: &[u8], n: usize, across: &mut [f64], up: &mut [f64])
@@ -352,67 +373,50 @@ pub fn read_offsets(s: &[u8], n: usize, across: &mut [f64], up: &mut [f64])
     ensures across_after { across.new ≡ over (across_of s.now n) across.old }
     ensures up_after { up.new ≡ over (up_of s.now n) up.old }
 {
-    read_angles(s, ACROSS, n, across);
-    read_angles(s, UP, n, up);
+    read_angles(s, ACROSS, &mut across[..n]);
+    read_angles(s, UP, &mut up[..n]);
 }
 
 // The angles that stand at every 16th byte from place `at` on.
-fn read_angles(s: &[u8], at: usize, n: usize, list: &mut [f64])
-    requires { (n ≤ length list.old) × (at + 16 * n ≤ length s.now + 8) }
-    ensures { list.new ≡ over (angles_at s.now at n) list.old }
+fn read_angles(s: &[u8], at: usize, list: &mut [f64])
+    requires { at + 16 * length list.old ≤ length s.now + 8 }
+    ensures { list.new ≡ angles_at s.now at (length list.old) }
 {
-    let mut i = 0;
-    while i < n {
-        let bits = number_at(s, at + 16 * i, 8);
-        list[i] = float_of(bits);
-        i += 1;
+    for (i, angle) in list.iter_mut().enumerate() {
+        *angle = f64_from_bits_with_nan(eight_at(s, at + 16 * i));
     }
 }
 
-// The f64 of a bit pattern. `from_bits` is not defined at a NaN's pattern, which its two fields tell.
-fn float_of(bits: u64) -> f64
-    ensures { result ≡ of_bits binary64 bits }
-{
-    let exponent = bits % 9223372036854775808 / 4503599627370496;
-    let digits = bits % 4503599627370496;
-    if exponent == 2047 {
-        if digits != 0 {
-            let zero = 0.0;
-            return zero / zero;
-        }
-    }
-    f64::from_bits(bits)
-}
+// ---- the number in the 2, 4 or 8 bytes from place `at` on, little-endian; byte by byte, since an array from a slice is a Result, whose Err could not come
 
+#[tactic(auto, using(crate::proofs::Numbers::first_byte, crate::proofs::Numbers::next_byte, crate::proofs::Numbers::no_byte))]
 fn two_at(s: &[u8], at: usize) -> u32
     requires { at + 2 ≤ length s.now }
     ensures { result ≡ number_at 2 s.now at }
 {
-    number_at(s, at, 2) as u32
+    u32::from(u16::from_le_bytes([s[at], s[at + 1]]))
 }
 
-// The number in the k bytes from place `at` on, little-endian.
-fn number_at(s: &[u8], at: usize, k: usize) -> u64
-    requires { (k ≤ 8) × (at + k ≤ length s.now) }
-    ensures { result ≡ number_at k s.now at }
+#[tactic(auto, using(crate::proofs::Numbers::first_byte, crate::proofs::Numbers::next_byte, crate::proofs::Numbers::no_byte))]
+fn four_at(s: &[u8], at: usize) -> u32
+    requires { at + 4 ≤ length s.now }
+    ensures { result ≡ number_at 4 s.now at }
 {
-    let mut i = k;
-    let mut v: u64 = 0;
-    while i > 0 {
-        i -= 1;
-        v = v * 256 + wide(s[at + i]);
-    }
-    v
+    u32::from_le_bytes([s[at], s[at + 1], s[at + 2], s[at + 3]])
 }
 
-fn byte(x: u8) -> u32
-    ensures { (result ≡ x) × (result < 256) }
+fn eight_at(s: &[u8], at: usize) -> u64
+    requires { at + 8 ≤ length s.now }
+    ensures { result ≡ number_at 8 s.now at }
 {
-    x as u32
-}
-
-fn wide(x: u8) -> u64
-    ensures { result ≡ x }
-{
-    x as u64
+    u64::from_le_bytes([
+        s[at],
+        s[at + 1],
+        s[at + 2],
+        s[at + 3],
+        s[at + 4],
+        s[at + 5],
+        s[at + 6],
+        s[at + 7],
+    ])
 }

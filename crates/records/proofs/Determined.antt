@@ -7,6 +7,4 @@ use Rattle.records.proofs.turn.Reads as turn_reads
 
 pub turn-Determined : Determined turn.ended turn_reads.Post
 turn-Determined κs a x y =
-    whole (λ (e : TurnEnd).
-    let d = e.desk in
-    (e.answer, kept 2 (d.stars, (d.codes, (d.starts, (d.ids, (d.lists.marks, (d.lists.entries, (d.lists.distances, (e.out, tt))))))))))
+    whole (λ (e : TurnEnd). (e.answer, kept 2 (e.desk, (e.out, tt))))

@@ -1,18 +1,22 @@
 -- What the functions under `turn` leave: the tables, and a question's lines and lists. Assumes nothing.
-use Rattle.std.specs.Prelude.{ℕ, ◌+◌, ◌*◌, ◌≤◌, ◌≡◌, cond, List, ◌++◌, length}
+use Rattle.std.specs.Prelude.{ℕ, ◌+◌, ◌*◌, ◌≤◌, ◌≡◌, List, length, set, Some, Result, Ok}
 use Rattle.lines.specs.Wrote.{Wrote, Put}
-use Rattle.lines.specs.Lines.{judged_line}
+use Rattle.lines.specs.Lines.{near, within, judged_line}
+use Rattle.scope.specs.declared.Refusal.{Refusal}
+use Rattle.scope.specs.declared.Report.{Report}
 use Rattle.scope.specs.Tables.{Index}
-use Rattle.scope.specs.Walk.{question}
-use Rattle.scope.specs.Calls.{build_end, verdict_end}
+use Rattle.scope.specs.Calls.{Asked, SearchEnd, nearest_end, within_end, VerdictEnd, verdict_end}
 use Rattle.reading.specs.declared.Session.{Session}
 use Rattle.reading.specs.declared.Code.{Code}
+use Rattle.reading.specs.declared.Record.{Record}
 use Rattle.reading.specs.declared.Question.{Question}
 use Rattle.reading.specs.declared.Question.TheVariants.{Nearest, Within, Verdict, Sky}
 use Rattle.reading.specs.State.{number_of}
-use Rattle.transcript.specs.Opening.{opening}
-use Rattle.transcript.specs.Questions.{Lists, words_of, Reply}
-use Rattle.transcript.specs.Turn.{Desk, catalogue, starts_for, ids_for, reply_to}
+use Rattle.transcript.specs.declared.Desk.{Desk}
+use Rattle.transcript.specs.Questions.{lists, asks, Reply}
+use Rattle.transcript.specs.Turn.{desk, catalogue, code_kept, starts_for, ids_for, desk_after, text_of}
+use Rattle.records.specs.declared.Search.{Search}
+use Rattle.records.specs.declared.Search.TheVariants as search
 
 -- the stars of a sky question stand in a record of len bytes
 abbrev pub StarsFit : Question → ℕ → Type 0
@@ -21,26 +25,48 @@ StarsFit (Within r code) len = Unit {0}
 StarsFit (Verdict t g code) len = Unit {0}
 StarsFit (Sky unit n) len = (n ≤ 512) × (5 + 16 * n ≤ len)
 
--- the tables are there: built where no question came before
-pub record Built (session : Session) (stars codes starts ids starts' ids' : List ℕ) : Type 0 where
-  pub starts_are : starts' ≡ cond session.asked starts (build_end (catalogue session stars codes starts ids)).starts
-  pub ids_are : ids' ≡ cond session.asked ids (build_end (catalogue session stars codes starts ids)).ids
+-- the desk with one entry more
+abbrev pub kept : Session → ℕ → Code → Desk → Desk
+kept session star code d =
+    desk (set d.stars session.entries star) (code_kept session.words session.entries code d.codes) d.starts d.ids d.lists
+
+-- the desk with the tables, which are built where no question came before
+abbrev pub tabled : Session → Desk → Desk
+tabled session d = desk d.stars d.codes (starts_for session d) (ids_for session d) d.lists
+
+-- the catalogue with the tables that stand on the desk
+abbrev pub index_on : Session → Desk → Index
+index_on session d = catalogue session d.stars d.codes d.starts d.ids
+
+abbrev pub word_of : Search → List ℕ
+word_of (search.Nearest k) = near
+word_of (search.Within r) = within
+
+abbrev pub end_of : Search → Asked → SearchEnd
+end_of (search.Nearest k) c = nearest_end c k
+end_of (search.Within r) c = within_end c r
+
+-- a search has listed its entries on the desk
+pub record Listed (d : Desk) (end : SearchEnd) (found : Result Report Refusal) (d' : Desk) : Type 0 where
+  pub answer : found ≡ end.answer
+  pub desk : d' ≡ desk d.stars d.codes d.starts d.ids (lists end.marks end.entries end.distances)
 
 -- a reply's text was written from place at on, and its lists stand
-pub record Replied (y : Reply) (l' : Lists) (out : List ℕ) (at : ℕ) (out' : List ℕ) (r : ℕ) : Type 0 where
-  pub lists : l' ≡ y.lists
+pub record Replied (d : Desk) (y : Reply) (out : List ℕ) (at : ℕ) (d' : Desk) (out' : List ℕ) (r : ℕ) : Type 0 where
+  pub desk : d' ≡ desk d.stars d.codes d.starts d.ids y.lists
   pub text : Wrote out at y.text out' r
   pub room : r ≤ 17408
 
--- a verdict over the index x
-pub record Judging (session : Session) (t g : ℕ) (code : Code) (x : Index) (marks marks' out : List ℕ) (at : ℕ) (out' : List ℕ) (r : ℕ) : Type 0 where
-  pub marks_are : marks' ≡ (verdict_end (question x (words_of x.shape.w code)) marks t g).marks
-  pub text : Put 64 out at (judged_line (number_of session) (verdict_end (question x (words_of x.shape.w code)) marks t g).answer) out' r
+abbrev pub verdict_on : Session → ℕ → ℕ → Code → Desk → VerdictEnd
+verdict_on session t g code d = verdict_end (asks (index_on session d) d.lists code).question d.lists.marks t g
 
--- a question was answered
-pub record Answered (session : Session) (q : Question) (s : List ℕ) (d : Desk) (out starts' ids' : List ℕ) (l' : Lists) (out' : List ℕ) (r : ℕ) : Type 0 where
-  pub starts : starts' ≡ starts_for session d
-  pub ids : ids' ≡ ids_for session d
-  pub lists : l' ≡ (reply_to session d q s).lists
-  pub text : Wrote out 0 (opening session ++ (reply_to session d q s).text) out' r
+-- a verdict over the desk's tables
+pub record Judging (session : Session) (t g : ℕ) (code : Code) (d : Desk) (out : List ℕ) (at : ℕ) (d' : Desk) (out' : List ℕ) (r : ℕ) : Type 0 where
+  pub desk : d' ≡ desk d.stars d.codes d.starts d.ids (lists (verdict_on session t g code d).marks d.lists.entries d.lists.distances)
+  pub text : Put 64 out at (judged_line (number_of session) (verdict_on session t g code d).answer) out' r
+
+-- a record was taken: what it leaves on the desk, and prints
+pub record Taken (session : Session) (rec : Record) (s : List ℕ) (d : Desk) (out : List ℕ) (d' : Desk) (out' : List ℕ) (r : ℕ) : Type 0 where
+  pub desk : d' ≡ desk_after session d s (Ok (Some rec))
+  pub text : Wrote out 0 (text_of session d s (Ok (Some rec))) out' r
   pub room : r ≤ length out

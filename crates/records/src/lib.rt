@@ -1,93 +1,86 @@
 // One turn of a session: what it knows and one record in, what it knows next and the text out. No input and no output.
+// Each function that prints writes from a place of `out` on, and returns the place after, as those of lines do.
 #![tactic(auto)]
 
-ghost use Rattle.std.specs.Prelude.{◌≡◌, true, false, cond, ◌+◌, ◌*◌, ◌≤◌, ◌<◌, eqb, length, take, set};
-ghost use Rattle.lines.specs.Lines.{near, sky_line};
-ghost use Rattle.lines.specs.Lines.{within as Lines·within};
+ghost use Rattle.std.specs.Prelude.{◌≡◌, cond, ◌+◌, ◌*◌, ◌≤◌, ◌<◌, eqb, length, take, Ok, Some};
+ghost use Rattle.lines.specs.Lines.{sky_line};
 ghost use Rattle.lines.specs.Wrote.{Put};
-ghost use Rattle.scope.specs.Calls.{nearest_end, within_end, sky_answer};
+ghost use Rattle.scope.specs.Calls.{sky_answer};
 ghost use Rattle.reading.specs.Offsets.{across_of, up_of};
+ghost use Rattle.reading.specs.Records.{record_of};
 ghost use Rattle.reading.specs.State.{number_of};
 ghost use Rattle.transcript.specs.Opening.{opening, ending};
-ghost use Rattle.transcript.specs.Questions.{shape_of, lists, asks, searched};
-ghost use Rattle.transcript.specs.Turn.{desk, catalogue, code_kept, turns, turn_end};
-ghost use Rattle.records.specs.Arms.{StarsFit, Replied, Built, Judging, Answered};
+ghost use Rattle.transcript.specs.Questions.{shape_of, asks, searched};
+ghost use Rattle.transcript.specs.Turn.{turns, turn_end};
+ghost use Rattle.records.specs.Arms.{StarsFit, kept, tabled, index_on, word_of, end_of, Listed, Replied, Judging, Taken};
 
 use reading::{Code, Question, Record, Session};
-use scope::{Shape, Unit};
-use transcript::Turned;
+use scope::{Index, Refusal, Report, Shape, Unit};
+use transcript::{Desk, Turned};
+
+// The searches that list entries: with k, and with r.
+#[derive(Clone, Copy, Debug, PartialEq, Eq)]
+enum Search {
+    Nearest(u32),
+    Within(u32),
+}
 
 // The turn at the record at the front of s. The text is written to the front of `out`.
-pub fn turn(
-    session: Session,
-    s: &[u8],
-    stars: &mut [u32; 512],
-    codes: &mut [u64; 1024],
-    starts: &mut [u32; 4112],
-    ids: &mut [u32; 16384],
-    marks: &mut [u64; 8],
-    entries: &mut [u32; 512],
-    distances: &mut [u32; 512],
-    out: &mut [u8; 17408],
-) -> Turned
-    ensures { turns result (desk stars.new codes.new starts.new ids.new (lists marks.new entries.new distances.new)) out.new ≡ turn_end session (desk stars.old codes.old starts.old ids.old (lists marks.old entries.old distances.old)) out.old s.now }
+pub fn turn(session: Session, s: &[u8], desk: &mut Desk, out: &mut [u8; 17408]) -> Turned
+    ensures { turns result desk.new out.new ≡ turn_end session desk.old out.old s.now }
 {
-    match reading::next_record(session, s) {
-        Record::Over => {
+    match session.next_record(s) {
+        Err(_) => {
+            let written = lines::put_bad(out, 0, session.number());
+            Turned {
+                next: None,
+                written,
+            }
+        }
+        Ok(None) => {
             let written = put_end(session, out);
-            ended(session, written)
+            Turned {
+                next: None,
+                written,
+            }
         }
-        Record::Bad => {
-            let written = lines::put_bad(out, 0, reading::number_of(session));
-            ended(session, written)
+        Ok(Some(rec)) => {
+            let written = take(session, rec, s, desk, out);
+            Turned {
+                next: Some(session.next(rec)),
+                written,
+            }
         }
-        Record::Head(w, m) => going(reading::with_head(session, w, m), 0),
+    }
+}
+
+// What the record at the front of s leaves on the desk, and prints.
+fn take(session: Session, rec: Record, s: &[u8], desk: &mut Desk, out: &mut [u8; 17408]) -> usize
+    requires { record_of session s.now ≡ Ok (Some rec) }
+    ensures { Taken session rec s.now desk.old out.old desk.new out.new result }
+{
+    match rec {
+        Record::Head(_, _) => 0,
         Record::Entry(star, code) => {
-            keep(session, star, code, stars, codes);
-            going(reading::with_entry(session, star, code), 0)
+            keep(session, star, code, desk);
+            0
         }
-        Record::Ask(question) => {
-            let written = answer(
-                session, question, s, stars, codes, starts, ids, marks, entries, distances, out,
-            );
-            going(reading::with_question(session, question), written)
-        }
-    }
-}
-
-fn ended(session: Session, written: usize) -> Turned
-    ensures { (result.next ≡ session) × (result.written ≡ written) × (result.over ≡ true) }
-{
-    Turned {
-        next: session,
-        written,
-        over: true,
-    }
-}
-
-fn going(next: Session, written: usize) -> Turned
-    ensures { (result.next ≡ next) × (result.written ≡ written) × (result.over ≡ false) }
-{
-    Turned {
-        next,
-        written,
-        over: false,
+        Record::Ask(question) => answer(session, question, s, desk, out),
     }
 }
 
 // Keeps an entry behind those before it.
-fn keep(session: Session, star: u32, code: Code, stars: &mut [u32; 512], codes: &mut [u64; 1024])
+fn keep(session: Session, star: u32, code: Code, desk: &mut Desk)
     requires { session.entries < 512 }
-    ensures stars_after { stars.new ≡ set stars.old session.entries star }
-    ensures codes_after { codes.new ≡ code_kept session.words session.entries code codes.old }
+    ensures { desk.new ≡ kept session star code desk.old }
 {
     let e = session.entries as usize;
-    stars[e] = star;
+    desk.stars[e] = star;
     if session.words == 2 {
-        codes[2 * e] = code.low;
-        codes[2 * e + 1] = code.high;
+        desk.codes[2 * e] = code.low;
+        desk.codes[2 * e + 1] = code.high;
     } else {
-        codes[e] = code.low;
+        desk.codes[e] = code.low;
     }
 }
 
@@ -116,138 +109,108 @@ fn put_end(session: Session, out: &mut [u8]) -> usize
 
 // ---- questions
 
-// Builds the tables where this is the first question, and prints the answer.
+// Builds the tables where this is the first question, and prints the answer. A match and no table of functions: each kind of question carries other values.
 fn answer(
     session: Session,
     question: Question,
     s: &[u8],
-    stars: &[u32; 512],
-    codes: &[u64; 1024],
-    starts: &mut [u32; 4112],
-    ids: &mut [u32; 16384],
-    marks: &mut [u64; 8],
-    entries: &mut [u32; 512],
-    distances: &mut [u32; 512],
+    desk: &mut Desk,
     out: &mut [u8; 17408],
 ) -> usize
     requires { StarsFit question (length s.now) }
-    ensures { Answered session question s.now (desk stars.now codes.now starts.old ids.old (lists marks.old entries.old distances.old)) out.old starts.new ids.new (lists marks.new entries.new distances.new) out.new result }
+    ensures { Taken session (Record.Ask question) s.now desk.old out.old desk.new out.new result }
 {
-    build_tables(session, stars, codes, starts, ids);
+    build_tables(session, desk);
     let at = put_opening(session, out);
     match question {
-        Question::Nearest(k, code) => ask_nearest(
-            session, k, code, stars, codes, starts, ids, marks, entries, distances, out, at,
-        ),
-        Question::Within(r, code) => ask_within(
-            session, r, code, stars, codes, starts, ids, marks, entries, distances, out, at,
-        ),
-        Question::Verdict(t, g, code) => ask_verdict(
-            session, t, g, code, stars, codes, starts, ids, marks, out, at,
-        ),
+        Question::Nearest(k, code) => ask(session, Search::Nearest(k), code, desk, out, at),
+        Question::Within(r, code) => ask(session, Search::Within(r), code, desk, out, at),
+        Question::Verdict(t, g, code) => ask_verdict(session, t, g, code, desk, out, at),
         Question::Sky(unit, n) => ask_sky(session, unit, n, s, out, at),
     }
 }
 
-fn build_tables(session: Session, stars: &[u32], codes: &[u64], starts: &mut [u32], ids: &mut [u32])
-    ensures { Built session stars.now codes.now starts.old ids.old starts.new ids.new }
+fn build_tables(session: Session, desk: &mut Desk)
+    ensures { desk.new ≡ tabled session desk.old }
 {
     if session.asked {
         return;
     }
-    tables::build(
+    let n = session.entries as usize;
+    let _ = tables::build(
         shape_of(session),
-        kept_stars(session, stars),
-        kept_codes(session, codes),
-        starts,
-        ids,
+        kept(&desk.stars, n),
+        kept(&desk.codes, n * session.words as usize),
+        &mut desk.starts,
+        &mut desk.ids,
     );
 }
 
-fn ask_nearest(
+// Prints the entries that a search lists.
+fn ask(
     session: Session,
-    k: u32,
+    search: Search,
     code: Code,
-    stars: &[u32; 512],
-    codes: &[u64; 1024],
-    starts: &[u32; 4112],
-    ids: &[u32; 16384],
-    marks: &mut [u64; 8],
-    entries: &mut [u32; 512],
-    distances: &mut [u32; 512],
+    desk: &mut Desk,
     out: &mut [u8; 17408],
     at: usize,
 ) -> usize
     requires { at ≤ 64 }
-    ensures { Replied (searched near (number_of session) (take session.entries stars.now) (nearest_end (asks (catalogue session stars.now codes.now starts.now ids.now) (lists marks.old entries.old distances.old) code) k)) (lists marks.new entries.new distances.new) out.old at out.new result }
+    ensures { Replied desk.old (searched (word_of search) (number_of session) (take session.entries desk.old.stars) (end_of search (asks (index_on session desk.old) desk.old.lists code))) out.old at desk.new out.new result }
 {
-    let query = [code.low, code.high];
-    let w = query_words(session);
-    let found = search::nearest(
-        shape_of(session),
-        kept_stars(session, stars),
-        kept_codes(session, codes),
-        starts,
-        ids,
-        &query[..w],
-        k,
-        marks,
-        entries,
-        distances,
-    );
+    let found = list(session, search, code, desk);
     lines::put_found(
         out,
         at,
-        reading::number_of(session),
-        b"near",
+        session.number(),
+        word_of(search),
         found,
-        kept_stars(session, stars),
-        entries,
-        distances,
+        kept(&desk.stars, session.entries as usize),
+        &desk.lists.entries,
+        &desk.lists.distances,
     )
 }
 
-fn ask_within(
-    session: Session,
-    r: u32,
-    code: Code,
-    stars: &[u32; 512],
-    codes: &[u64; 1024],
-    starts: &[u32; 4112],
-    ids: &[u32; 16384],
-    marks: &mut [u64; 8],
-    entries: &mut [u32; 512],
-    distances: &mut [u32; 512],
-    out: &mut [u8; 17408],
-    at: usize,
-) -> usize
-    requires { at ≤ 64 }
-    ensures { Replied (searched Lines·within (number_of session) (take session.entries stars.now) (within_end (asks (catalogue session stars.now codes.now starts.now ids.now) (lists marks.old entries.old distances.old) code) r)) (lists marks.new entries.new distances.new) out.old at out.new result }
+fn word_of(search: Search) -> &'static [u8]
+    ensures { result.now ≡ word_of search }
+{
+    match search {
+        Search::Nearest(_) => b"near",
+        Search::Within(_) => b"within",
+    }
+}
+
+fn list(session: Session, search: Search, code: Code, desk: &mut Desk) -> Result<Report, Refusal>
+    ensures { Listed desk.old (end_of search (asks (index_on session desk.old) desk.old.lists code)) result desk.new }
 {
     let query = [code.low, code.high];
     let w = query_words(session);
-    let found = search::within(
-        shape_of(session),
-        kept_stars(session, stars),
-        kept_codes(session, codes),
-        starts,
-        ids,
-        &query[..w],
-        r,
-        marks,
-        entries,
-        distances,
-    );
-    lines::put_found(
-        out,
-        at,
-        reading::number_of(session),
-        b"within",
-        found,
-        kept_stars(session, stars),
-        entries,
-        distances,
-    )
+    let n = session.entries as usize;
+    let index = Index {
+        shape: shape_of(session),
+        stars: kept(&desk.stars, n),
+        codes: kept(&desk.codes, n * session.words as usize),
+        starts: &desk.starts,
+        ids: &desk.ids,
+    };
+    match search {
+        Search::Nearest(k) => search::nearest(
+            &index,
+            &query[..w],
+            k,
+            &mut desk.lists.marks,
+            &mut desk.lists.entries,
+            &mut desk.lists.distances,
+        ),
+        Search::Within(r) => search::within(
+            &index,
+            &query[..w],
+            r,
+            &mut desk.lists.marks,
+            &mut desk.lists.entries,
+            &mut desk.lists.distances,
+        ),
+    }
 }
 
 fn ask_verdict(
@@ -255,31 +218,25 @@ fn ask_verdict(
     t: u32,
     g: u32,
     code: Code,
-    stars: &[u32; 512],
-    codes: &[u64; 1024],
-    starts: &[u32; 4112],
-    ids: &[u32; 16384],
-    marks: &mut [u64; 8],
+    desk: &mut Desk,
     out: &mut [u8; 17408],
     at: usize,
 ) -> usize
     requires { at ≤ 64 }
-    ensures { Judging session t g code (catalogue session stars.now codes.now starts.now ids.now) marks.old marks.new out.old at out.new result }
+    ensures { Judging session t g code desk.old out.old at desk.new out.new result }
 {
     let query = [code.low, code.high];
     let w = query_words(session);
-    let judged = search::verdict(
-        shape_of(session),
-        kept_stars(session, stars),
-        kept_codes(session, codes),
-        starts,
-        ids,
-        &query[..w],
-        t,
-        g,
-        marks,
-    );
-    lines::put_judged(out, at, reading::number_of(session), judged)
+    let n = session.entries as usize;
+    let index = Index {
+        shape: shape_of(session),
+        stars: kept(&desk.stars, n),
+        codes: kept(&desk.codes, n * session.words as usize),
+        starts: &desk.starts,
+        ids: &desk.ids,
+    };
+    let judged = search::verdict(&index, &query[..w], t, g, &mut desk.lists.marks);
+    lines::put_judged(out, at, session.number(), judged)
 }
 
 fn ask_sky(
@@ -297,11 +254,12 @@ fn ask_sky(
     let mut up = [0.0; 512];
     reading::read_offsets(s, n, &mut across, &mut up);
     let sky = sky::code(unit, &across[..n], &up[..n]);
-    lines::put_sky(out, at, reading::number_of(session), sky)
+    lines::put_sky(out, at, session.number(), sky)
 }
 
 // ---- the catalogue: the places that entries have filled, and its shape
 
+// Two numbers of a session, which need not be a listed shape.
 fn shape_of(session: Session) -> Shape
     ensures { result ≡ shape_of session }
 {
@@ -311,24 +269,11 @@ fn shape_of(session: Session) -> Shape
     }
 }
 
-fn kept_stars(session: Session, stars: &[u32]) -> &[u32]
-    ensures { result.now ≡ take session.entries stars.now }
+// The first n places of a list, or all.
+fn kept<T>(list: &[T], n: usize) -> &[T]
+    ensures { result.now ≡ take n list.now }
 {
-    let n = session.entries as usize;
-    if n < stars.len() {
-        return &stars[..n];
-    }
-    stars
-}
-
-fn kept_codes(session: Session, codes: &[u64]) -> &[u64]
-    ensures { result.now ≡ take (session.entries * session.words) codes.now }
-{
-    let n = (session.entries as usize) * (session.words as usize);
-    if n < codes.len() {
-        return &codes[..n];
-    }
-    codes
+    &list[..n.min(list.len())]
 }
 
 // How many words a query has.

@@ -1,4 +1,6 @@
 -- A batch by whether it is refused, and where each query's part stands. Assumes nothing.
+use Rattle.std.specs.Prelude.{Result, Ok, Err}
+use Rattle.scope.specs.declared.Report.{Report}
 use mathlib.Core.Path.{◌≡◌, refl, sym, ap, ◌∙◌}
 use mathlib.Core.Logic.{⊎_elim}
 use mathlib.Core.Bool.{Bool, true, false, not}
@@ -14,8 +16,6 @@ use Rattle.theory.proofs.Lists.{any_append}
 use Rattle.theory.proofs.Tests.{either, both_ways, or-false_left, or-false_right}
 use Rattle.theory.proofs.Parts.{in_parts, part_long}
 use Rattle.scope.specs.declared.Refusal.{Refusal}
-use Rattle.scope.specs.declared.Found.{Found}
-use Rattle.scope.specs.declared.Found.TheVariants as found
 use Rattle.scope.specs.declared.Answer.{Answer}
 use Rattle.scope.specs.Codes.{code_of}
 use Rattle.scope.specs.Tables.{n}
@@ -89,6 +89,6 @@ module _ (c : Handed) where
   unfolding code_of
   query_long i h = part_long (i * c.index.shape.w) c.index.shape.w c.queries (query_inside i h)
 
-pub four_long : (r : Found) → length (outcome_of r) ≡ 4
-four_long (found.Listed r) = refl
-four_long (found.Refused f) = refl
+pub four_long : (r : Result Report Refusal) → length (outcome_of r) ≡ 4
+four_long (Ok r) = refl
+four_long (Err f) = refl

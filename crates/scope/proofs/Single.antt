@@ -1,4 +1,6 @@
 -- A call for the k nearest gives the same answer and lists the same, whatever lists of enough places it is lent. Assumes nothing.
+use Rattle.std.specs.Prelude.{Result, Ok, Err}
+use Rattle.scope.specs.declared.Refusal.{Refusal}
 use mathlib.Core.Path.{◌≡◌, refl, sym, ap, ◌∙◌}
 use mathlib.Core.Bool.{Bool, true, false, cond}
 use mathlib.Core.List.{List, [], ◌∷◌, ◌++◌, map}
@@ -14,8 +16,6 @@ use Rattle.theory.proofs.Lists.{length-padded, over-padded, get_d_tab, cat-none}
 use Rattle.theory.proofs.Placing.{here, length-ranked}
 use Rattle.scope.specs.declared.Refusal.TheVariants.{BadBucket}
 use Rattle.scope.specs.declared.Report.{Report}
-use Rattle.scope.specs.declared.Found.{Found}
-use Rattle.scope.specs.declared.Found.TheVariants as found
 use Rattle.scope.specs.Shape.{q}
 use Rattle.scope.specs.Tables.{Index, n, bad}
 use Rattle.scope.specs.Walk.{Question, question, distance_of, tested, opened}
@@ -37,27 +37,27 @@ module _ (x : Index) (query : List ℕ) (k : ℕ) (h : Fits x) (long : length qu
   abbrev l : List ℕ
   l = nearest ask k
 
-  abbrev listing : Found
-  listing = found.Listed (report ask (nearest_steps ask k) l)
+  abbrev listing : Result Report Refusal
+  listing = Ok (report ask (nearest_steps ask k) l)
 
   -- the answer
-  it : Found
-  it = unless (walked ask (nearest_steps ask k)) found.Refused listing
+  it : Result Report Refusal
+  it = unless (walked ask (nearest_steps ask k)) Err listing
 
   answer_is : (marks entries distances : List ℕ) → mark_words (n x) ≤ length marks → K x k ≤ length entries → K x k ≤ length distances
       → nearest_answer (asked ask marks entries distances) k ≡ it
   unfolding nearest_answer unless any it
   answer_is marks entries distances hm he hd =
-      unless-append (handed ask [] marks) (few_places (K x k) (min (length entries) (length distances)) ++ walked ask (nearest_steps ask k)) found.Refused listing
-      ∙ unless-append (one_to_three x) (wrong_query x.shape query ++ above x.shape [] ++ few_marks x marks) found.Refused _
-      ∙ unrefused x h found.Refused _
+      unless-append (handed ask [] marks) (few_places (K x k) (min (length entries) (length distances)) ++ walked ask (nearest_steps ask k)) Err listing
+      ∙ unless-append (one_to_three x) (wrong_query x.shape query ++ above x.shape [] ++ few_marks x marks) Err _
+      ∙ unrefused x h Err _
       ∙ rw (eq-eqb (length query) x.shape.w long, le-ltb (length marks) (mark_words (n x)) hm, le-ltb (min (length entries) (length distances)) (K x k) (omega arith))
 
-  arm : (t : Bool) (b : ℕ × ℕ) (r : Found) → changes (of_found r).0 ≡ true → changes (of_found (cond t (found.Refused (BadBucket b.0 b.1)) r)).0 ≡ true
+  arm : (t : Bool) (b : ℕ × ℕ) (r : Result Report Refusal) → changes (of_found r).0 ≡ true → changes (of_found (cond t (Err (BadBucket b.0 b.1)) r)).0 ≡ true
   arm true b r h = refl
   arm false b r h = h
 
-  go : (b : List (ℕ × ℕ)) (r : Report) → changes (of_found (unless (met x b) found.Refused (found.Listed r))).0 ≡ true
+  go : (b : List (ℕ × ℕ)) (r : Report) → changes (of_found (unless (met x b) Err (Ok r))).0 ≡ true
   unfolding unless
   go [] r = refl
   go (b ∷ bs) r = arm (bad x b.0 b.1) b _ (go bs r)
@@ -119,11 +119,11 @@ module _ (x : Index) (query : List ℕ) (k : ℕ) (h : Fits x) (long : length qu
 
   few : answers_of it ≤ K x k
   unfolding it report
-  few = unless_holds (λ r. answers_of r ≤ K x k) (walked ask (nearest_steps ask k)) found.Refused listing (λ f. omega arith) l_few
+  few = unless_holds (λ r. answers_of r ≤ K x k) (walked ask (nearest_steps ask k)) Err listing (λ f. omega arith) l_few
 
   known : (p : ℕ) → p < answers_of it → get_or shown p 0 < n x
   unfolding it report
-  known p = unless_holds (λ r. p < answers_of r → get_or (cond (eqb (of_found r).0 7) [] l) p 0 < n x) (walked ask (nearest_steps ask k)) found.Refused listing (λ f b. absurd (omega arith)) (λ b. l_at p b)
+  known p = unless_holds (λ r. p < answers_of r → get_or (cond (eqb (of_found r).0 7) [] l) p 0 < n x) (walked ask (nearest_steps ask k)) Err listing (λ f b. absurd (omega arith)) (λ b. l_at p b)
 
   -- as many answers, or fewer, and each is an entry
   pub single_few : answers_of (single x query k).answer ≤ K x k

@@ -1,10 +1,10 @@
 -- 02, L3: one call takes up to 256 queries and a k, and fills a lent list of answer records and a second list of outcomes. Assumes nothing.
-use Rattle.std.specs.Prelude.{not, cond, List, [], ◌∷◌, ◌++◌, ℕ, ◌*◌, ◌/◌, ◌%◌, eqb, ltb, length, get_or}
+use Rattle.std.specs.Prelude.{not, cond, List, [], ◌∷◌, ◌++◌, ℕ, ◌*◌, ◌/◌, ◌%◌, eqb, ltb, length, get_or, Result, Ok, Err}
+use Rattle.scope.specs.declared.Report.{Report}
+use Rattle.scope.specs.declared.Refusal.{Refusal}
 use Rattle.theory.specs.Lists.{cat, tab, over, padded}
 use Rattle.scope.specs.declared.Shape.{Shape}
 use Rattle.scope.specs.declared.Refusal.TheVariants.{Query, Batch}
-use Rattle.scope.specs.declared.Found.{Found}
-use Rattle.scope.specs.declared.Found.TheVariants as found
 use Rattle.scope.specs.declared.Answer.{Answer}
 use Rattle.scope.specs.Codes.{code_of}
 use Rattle.scope.specs.Tables.{Index, n}
@@ -63,11 +63,11 @@ abbrev pub single_of : Handed → ℕ → SearchEnd
 single_of c i = single c.index (query_of c i) c.k
 
 -- its refusal (0 if none), number of answers and counts; a query refused 7 has all zeros but the 7
-abbrev pub outcome_of : Found → List ℕ
-outcome_of (found.Listed r) = 0 ∷ r.answers ∷ r.opened.0 ∷ r.tested.0 ∷ []
-outcome_of (found.Refused f) = (refusal f).0 ∷ 0 ∷ 0 ∷ 0 ∷ []
+abbrev pub outcome_of : Result Report Refusal → List ℕ
+outcome_of (Ok r) = 0 ∷ r.answers ∷ r.opened.0 ∷ r.tested.0 ∷ []
+outcome_of (Err f) = (refusal f).0 ∷ 0 ∷ 0 ∷ 0 ∷ []
 
-abbrev pub answers_of : Found → ℕ
+abbrev pub answers_of : Result Report Refusal → ℕ
 answers_of r = get_or (outcome_of r) 1 0
 
 -- answer p, each with entry, star and distance; unused places are zero records

@@ -10,10 +10,10 @@ use Rattle.search.specs.contracts.verdict as verdict
 use Rattle.search.proofs.verdict.Reads as verdict_reads
 
 pub nearest-Determined : Determined nearest.ended nearest_reads.Post
-nearest-Determined κs a x y = whole (λ (e : SearchEnd). (e.answer, kept 7 (e.marks, (e.entries, (e.distances, tt)))))
+nearest-Determined κs a x y = whole (λ (e : SearchEnd). (e.answer, kept 3 (e.marks, (e.entries, (e.distances, tt)))))
 
 pub within-Determined : Determined within.ended within_reads.Post
-within-Determined κs a x y = whole (λ (e : SearchEnd). (e.answer, kept 7 (e.marks, (e.entries, (e.distances, tt)))))
+within-Determined κs a x y = whole (λ (e : SearchEnd). (e.answer, kept 3 (e.marks, (e.entries, (e.distances, tt)))))
 
 pub verdict-Determined : Determined verdict.ended verdict_reads.Post
-verdict-Determined κs a x y = whole (λ (e : VerdictEnd). (e.answer, kept 8 (e.marks, tt)))
+verdict-Determined κs a x y = whole (λ (e : VerdictEnd). (e.answer, kept 4 (e.marks, tt)))

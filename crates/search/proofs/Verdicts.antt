@@ -1,4 +1,5 @@
 -- From the walk's rivals to the verdict. Assumes nothing.
+use Rattle.std.specs.Prelude.{Result, Ok, Err}
 use mathlib.Core.Path.{◌≡◌, refl, sym, ap, subst, ◌∙◌}
 use mathlib.Core.Logic.{inl, inr, ⊎_elim}
 use mathlib.Core.Bool.{Bool, true, false, ◌&&◌, cond, and-false}
@@ -16,28 +17,25 @@ use Rattle.scope.specs.declared.Refusal.{Refusal}
 use Rattle.scope.specs.declared.Refusal.TheVariants.{BadBucket}
 use Rattle.scope.specs.declared.Verdict.{Verdict}
 use Rattle.scope.specs.declared.VerdictReport.{VerdictReport}
-use Rattle.scope.specs.declared.Judged.{Judged}
-use Rattle.scope.specs.declared.Judged.TheVariants as judged
 use Rattle.scope.specs.Codes.{code_of}
 use Rattle.scope.specs.Shape.{q}
 use Rattle.scope.specs.Tables.{Index, n, bad}
 use Rattle.scope.specs.Walk.{Question, distance_of, star_of, opened, tested}
 use Rattle.scope.specs.Verdict.{verdict_of, verdict_steps, nearest_rivals}
-use Rattle.scope.specs.Refusals.{of_judged, changes, met, unless, one_to_five, mark_words, lent}
+use Rattle.scope.specs.Refusals.{of_judged, changes, met, unless, one_to_five, mark_words, lent, allowed}
 use Rattle.scope.specs.Calls.{handed, walked, judges, verdict_report, verdict_answer, verdict_end}
 use Rattle.scope.proofs.Rows.{unless-append, unless-none, two_limits}
 use Rattle.scope.proofs.Codes.{distance-le}
 use Rattle.scope.proofs.Shapes.{facts}
 use Rattle.scope.proofs.Stars.{Foremost, Runner, Told, told}
-use Rattle.shapes.specs.declared.Early.TheVariants.{Fine, Refused}
 use Rattle.walk.specs.declared.Aim.TheVariants as aim
-use Rattle.walk.specs.declared.Met.TheVariants as walk
 use Rattle.walk.specs.declared.Rivals.{Rivals}
 use Rattle.walk.specs.declared.Walk.{Walk}
 use Rattle.walk.specs.Rivals.{standing, nobody, Best}
-use Rattle.walk.specs.Steps.{Asked, met_in, Ended, Walked}
+use Rattle.walk.specs.Asked.{Asked}
+use Rattle.walk.specs.Steps.{met_in, Ended}
 use Rattle.walk.proofs.Opening.{walk_clear, walk_refused}
-use Rattle.search.specs.Judge.{Judgeable, Its, Stand}
+use Rattle.search.specs.Judge.{Its, Stand}
 use Rattle.search.specs.Past.{verdict_found}
 use Rattle.search.proofs.Refusing.{none_fits, one_fits_lem}
 use Rattle.search.proofs.Answering.{early_keeps}
@@ -94,13 +92,6 @@ module _ (ask : Question) (w : Walk) (marks tally : List ℕ) (a : Asked ask) (e
   seen_is i =
       ⊎_elim (λ (h : seen i ≡ true). rw (lt-ltb i (n ask.index) (entry i h))) (λ (h : seen i ≡ false). rw h (and-false (ltb i (n ask.index)))) (either (seen i))
 
-  pub judgeable : Judgeable ask.index.stars w.seen.rivals
-  judgeable =
-      record {
-        order = e.left.order.0;
-        entry = λ ne. ⊎_elim (λ x. absurd (ne x)) (λ v. let few = a.lent.few in omega (arith, v.2, entry v.0 v.1)) e.left.another;
-      }
-
   pub rivals_stand : Stand (star_of ask) (distance_of ask) w.seen.rivals (nearest_rivals ask)
   unfolding nearest_rivals
   rivals_stand =
@@ -110,23 +101,24 @@ module _ (ask : Question) (w : Walk) (marks tally : List ℕ) (a : Asked ask) (e
       w.seen.rivals e.left _
       (subst (λ (t : ℕ → Bool). Told (star_of ask) (distance_of ask) t (nearest_rivals ask)) (λ k j. seen_is j k) (told ask seen))
 
-module _ (ask : Question) (t g : ℕ) (w : Walk) (marks tally : List ℕ) (h : Walked ask aim.TwoStars (verdict_steps ask) w marks tally) where
-  abbrev given : Judged
-  given = judged.Given (verdict_report ask t g (verdict_steps ask) (nearest_rivals ask))
+module _ (ask : Question) (t g : ℕ) where
+  abbrev given : Result VerdictReport Refusal
+  given = Ok (verdict_report ask t g (verdict_steps ask) (nearest_rivals ask))
 
-  pub found_refused : (f : Refusal) → w.met ≡ walk.Refused f → judged.Refused f ≡ verdict_found ask t g
+  pub found_refused : (f : Refusal) → met_in ask.index (opened ask (verdict_steps ask)) ≡ Err f → Err f ≡ verdict_found ask t g
   unfolding verdict_found met_in
-  found_refused f e = sym (walk_refused judged.Refused given (met ask.index (opened ask (verdict_steps ask))) f (sym h.met ∙ e))
+  found_refused f e = sym (walk_refused Err given (met ask.index (opened ask (verdict_steps ask))) f e)
 
-  pub found_given : w.met ≡ walk.Clear → (v : Verdict) → v ≡ verdict_of (star_of ask) (distance_of ask) t g (nearest_rivals ask)
-      → judged.Given (record { verdict = v; opened = w.opened; tested = w.seen.tested }) ≡ verdict_found ask t g
+  pub found_given : (w : Walk) (marks tally : List ℕ)
+      → (met_in ask.index (opened ask (verdict_steps ask)) ≡ Ok tt) × Ended ask aim.TwoStars (verdict_steps ask) w marks tally
+      → (v : Verdict) → v ≡ verdict_of (star_of ask) (distance_of ask) t g (nearest_rivals ask)
+      → Ok (record { verdict = v; opened = w.opened; tested = w.seen.tested }) ≡ verdict_found ask t g
   unfolding verdict_found met_in verdict_report
-  found_given e v is =
-      let a = h.clear e in
+  found_given w marks tally (e, a) v is =
       let rows = met ask.index (opened ask (verdict_steps ask)) in
       let same : record { verdict = v; opened = w.opened; tested = w.seen.tested } ≡ verdict_report ask t g (verdict_steps ask) (nearest_rivals ask) =
       λ i. record { verdict = is i; opened = a.opened i; tested = a.tested i } in
-      ap judged.Given same ∙ sym (unless-none rows judged.Refused given (walk_clear rows (sym h.met ∙ e)))
+      ap Ok same ∙ sym (unless-none rows Err given (walk_clear rows e))
 
 -- ---- the whole call
 
@@ -139,39 +131,39 @@ unfolding lent
 zeros number P old h = rw (h, nothing (eqb number 7)) (ap (λ (k : ℕ). padded P [] ++ drop k old) (length-padded P []))
 
 -- 0 or 7
-changing : (x : Index) (l : List (ℕ × ℕ)) (rep : VerdictReport) → changes (of_judged (unless (met x l) judged.Refused (judged.Given rep))).0 ≡ true
+changing : (x : Index) (l : List (ℕ × ℕ)) (rep : VerdictReport) → changes (of_judged (unless (met x l) Err (Ok rep))).0 ≡ true
 unfolding unless
 changing x [] rep = refl
 changing x (b ∷ l) rep = go (changing x l rep) (bad x b.0 b.1)
   where
-    go : changes (of_judged (unless (met x l) judged.Refused (judged.Given rep))).0 ≡ true → (t : Bool)
-        → changes (of_judged (cond t (judged.Refused (BadBucket b.0 b.1)) (unless (met x l) judged.Refused (judged.Given rep)))).0 ≡ true
+    go : changes (of_judged (unless (met x l) Err (Ok rep))).0 ≡ true → (t : Bool)
+        → changes (of_judged (cond t (Err (BadBucket b.0 b.1)) (unless (met x l) Err (Ok rep)))).0 ≡ true
     go ih true = refl
     go ih false = ih
 
 module _ (ask : Question) (marks : List ℕ) (t g : ℕ) where
-  answer_is : verdict_answer ask marks t g ≡ unless (handed ask (t ∷ g ∷ []) marks) judged.Refused (verdict_found ask t g)
+  answer_is : verdict_answer ask marks t g ≡ unless (handed ask (t ∷ g ∷ []) marks) Err (verdict_found ask t g)
   unfolding verdict_answer verdict_found
-  answer_is = unless-append (handed ask (t ∷ g ∷ []) marks) (walked ask (verdict_steps ask)) judged.Refused _
+  answer_is = unless-append (handed ask (t ∷ g ∷ []) marks) (walked ask (verdict_steps ask)) Err _
 
-  pub verdict_early : (f : Refusal) → unless (one_to_five ask.index ask.query (max t g ∷ []) marks) Refused Fine ≡ Refused f
-      → judges (judged.Refused f) marks ≡ verdict_end ask marks t g
+  pub verdict_early : (f : Refusal) → allowed (one_to_five ask.index ask.query (max t g ∷ []) marks) ≡ Err f
+      → judges (Err f) marks ≡ verdict_end ask marks t g
   unfolding verdict_end lent
   verdict_early f e =
-      let e' : unless (one_to_five ask.index ask.query (t ∷ g ∷ []) marks) Refused Fine ≡ Refused f = rw two_limits at e in
+      let e' : allowed (one_to_five ask.index ask.query (t ∷ g ∷ []) marks) ≡ Err f = rw two_limits at e in
       sym (rw (
         answer_is,
-        one_fits_lem judged.Refused (verdict_found ask t g) (handed ask (t ∷ g ∷ []) marks) f e',
+        one_fits_lem Err (verdict_found ask t g) (handed ask (t ∷ g ∷ []) marks) f e',
         early_keeps ask.index ask.query (t ∷ g ∷ []) marks f e',
       ))
 
-  pub verdict-whole : unless (one_to_five ask.index ask.query (max t g ∷ []) marks) Refused Fine ≡ Fine → (r : Judged) (m : List ℕ) → r ≡ verdict_found ask t g
+  pub verdict-whole : allowed (one_to_five ask.index ask.query (max t g ∷ []) marks) ≡ Ok tt → (r : Result VerdictReport Refusal) (m : List ℕ) → r ≡ verdict_found ask t g
       → m ≡ padded (mark_words (n ask.index)) [] → judges r (m ++ drop (mark_words (n ask.index)) marks) ≡ verdict_end ask marks t g
   unfolding verdict_end verdict_found
   verdict-whole fine r m e z =
       let words = mark_words (n ask.index) in
       let past : verdict_answer ask marks t g ≡ verdict_found ask t g =
-      answer_is ∙ unless-none (handed ask (t ∷ g ∷ []) marks) judged.Refused _ (none_fits (handed ask (t ∷ g ∷ []) marks) (rw two_limits at fine)) in
+      answer_is ∙ unless-none (handed ask (t ∷ g ∷ []) marks) Err _ (none_fits (handed ask (t ∷ g ∷ []) marks) (rw two_limits at fine)) in
       let kept : lent (of_judged (verdict_found ask t g)).0 words [] marks ≡ padded words [] ++ drop words marks =
       zeros _ words marks (changing ask.index (opened ask (verdict_steps ask)) _) in
       rw past (λ i. judges (e i) ((ap (λ (l : List ℕ). l ++ drop words marks) z ∙ sym kept) i))

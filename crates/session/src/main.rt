@@ -3,30 +3,30 @@
 
 ghost use Rattle.std.specs.Prelude.{◌≤◌, IfOk, length};
 
+use reading::Session;
 use std::io;
 use std::io::{Read, Write};
+use transcript::{Desk, Lists};
 
 fn main(rt: HostRuntime) -> io::Result<()> {
     let mut buf = [0u8; 8197];
-    let mut stars = [0u32; 512];
-    let mut codes = [0u64; 1024];
-    let mut starts = [0u32; 4112];
-    let mut ids = [0u32; 16384];
-    let mut marks = [0u64; 8];
-    let mut entries = [0u32; 512];
-    let mut distances = [0u32; 512];
+    let mut desk = Desk {
+        stars: [0; 512],
+        codes: [0; 1024],
+        starts: [0; 4112],
+        ids: [0; 16384],
+        lists: Lists {
+            marks: [0; 8],
+            entries: [0; 512],
+            distances: [0; 512],
+        },
+    };
     let mut out = [0u8; 17408];
     run(
         &mut rt.stdin(),
         &mut rt.stdout(),
         &mut buf,
-        &mut stars,
-        &mut codes,
-        &mut starts,
-        &mut ids,
-        &mut marks,
-        &mut entries,
-        &mut distances,
+        &mut desk,
         &mut out,
     )
 }
@@ -36,41 +36,24 @@ fn run(
     input: &mut impl Read,
     output: &mut impl Write,
     buf: &mut [u8],
-    stars: &mut [u32; 512],
-    codes: &mut [u64; 1024],
-    starts: &mut [u32; 4112],
-    ids: &mut [u32; 16384],
-    marks: &mut [u64; 8],
-    entries: &mut [u32; 512],
-    distances: &mut [u32; 512],
+    desk: &mut Desk,
     out: &mut [u8; 17408],
 ) -> io::Result<()>
     requires { 8197 ≤ length buf.old }
 {
-    let mut session = reading::start();
+    let mut session = Session::start();
     loop {
         let got = read_record(input, buf)?;
-        let turned = records::turn(
-            session,
-            &buf[..got],
-            stars,
-            codes,
-            starts,
-            ids,
-            marks,
-            entries,
-            distances,
-            out,
-        );
+        let turned = records::turn(session, &buf[..got], desk, out);
         write_text(output, out, turned.written)?;
-        if turned.over {
-            return Ok(());
+        match turned.next {
+            Some(next) => session = next,
+            None => return Ok(()),
         }
-        session = turned.next;
     }
 }
 
-// Reads the next record, or what the input still has of it, to the front of buf, and returns how many bytes.
+// Reads the next record, or what the input still has of it, to the front of buf, and returns how many bytes, as read_full does.
 fn read_record(input: &mut impl Read, buf: &mut [u8]) -> io::Result<usize>
     requires { 8197 ≤ length buf.old }
     ensures { IfOk result (λ n. n ≤ 8197) }
@@ -86,6 +69,7 @@ fn read_record(input: &mut impl Read, buf: &mut [u8]) -> io::Result<usize>
 }
 
 // Reads until buf is full or the input ends, and returns how many bytes it put at the front of buf.
+// By hand: std's read_exact does not say how many bytes came before the input's end.
 fn read_full(input: &mut impl Read, buf: &mut [u8]) -> io::Result<usize>
     ensures { IfOk result (λ n. n ≤ length buf.new) }
 {
@@ -100,6 +84,7 @@ fn read_full(input: &mut impl Read, buf: &mut [u8]) -> io::Result<usize>
     Ok(done)
 }
 
+// No turn writes more than fits: what it wrote is a number, as a turn says it.
 fn write_text(output: &mut impl Write, out: &[u8], n: usize) -> io::Result<()> {
     if n <= out.len() {
         output.write_all(&out[..n])?;

@@ -1,4 +1,6 @@
 -- What the sky maker's answer says: the code's bits are the cells that have a star. Assumes nothing.
+use Rattle.std.specs.Prelude.{Ok, Err, Result}
+use Rattle.scope.specs.declared.Refusal.{Refusal}
 use mathlib.Core.Path.{◌≡◌, sym, ap, ap₂, ◌∙◌}
 use mathlib.Core.Logic.{◌⊎◌, inl, inr}
 use mathlib.Core.Bool.{true, false, ◌||◌, or-false}
@@ -15,13 +17,10 @@ use Rattle.theory.proofs.Tests.{max_is_or, either, one_if}
 use Rattle.theory.proofs.Lists.{has-suc}
 use Rattle.theory.proofs.Digits.{digit, digit_or, digit_power, same_digits}
 use Rattle.scope.specs.declared.Unit.{Unit}
-use Rattle.scope.specs.declared.Sky.TheVariants as sky
 use Rattle.scope.specs.Codes.{bit}
 use Rattle.scope.specs.Sky.{cell_at, code_from}
 use Rattle.scope.specs.Refusals.{Rows, offsets, unless}
 use Rattle.scope.specs.Calls.{sky_answer}
-use Rattle.sky.specs.declared.Place.{Place}
-use Rattle.sky.specs.declared.Place.TheVariants.{At, Refused}
 use Rattle.sky.proofs.Places.{onward, told}
 use Rattle.sky.proofs.Stars.{rows}
 
@@ -50,18 +49,18 @@ second-star cell k h =
 abbrev pub cells : Unit → List Float → List Float → List ℕ
 cells u across up = tab (cell_at u across up) (length across)
 
-answered : (p : Place) (x c : ℕ) → onward p sky.Refused (sky.Code x) ≡ sky.Code c → c ≡ x
-answered (At y) x c h = cc
-answered (Refused why) x c h = let z : ◌≡◌ {A = ℕ} 0 1 = cc in absurd (omega arith)
+answered : (p : Result ℕ Refusal) (x c : ℕ) → onward p Err (Ok x) ≡ Ok c → c ≡ x
+answered (Ok y) x c h = cc
+answered (Err why) x c h = let z : ◌≡◌ {A = ℕ} 0 1 = cc in absurd (omega arith)
 
-code_is : (u : Unit) (across up : List Float) (c : ℕ) → sky_answer u across up ≡ sky.Code c → c ≡ code_from (cell_at u across up) (length across)
+code_is : (u : Unit) (across up : List Float) (c : ℕ) → sky_answer u across up ≡ Ok c → c ≡ code_from (cell_at u across up) (length across)
 unfolding sky_answer
 code_is u across up c h =
     let all : Rows = offsets (length across) (length up) ++ cat (rows u across up) (length across) in
-    answered (unless all Refused (At 0)) _ c (sym (told all 0 sky.Refused _) ∙ h)
+    answered (unless all Err (Ok 0)) _ c (sym (told all 0 Err _) ∙ h)
 
 -- bit j of the code is 1 exactly when some star's cell is j
-pub code-bit : (u : Unit) (across up : List Float) (c j : ℕ) → sky_answer u across up ≡ sky.Code c → j < 64
+pub code-bit : (u : Unit) (across up : List Float) (c j : ℕ) → sky_answer u across up ≡ Ok c → j < 64
     → bit (c ∷ []) j ≡ one_if (has j (cells u across up))
 unfolding bit
 code-bit u across up c j h l =
@@ -70,7 +69,7 @@ code-bit u across up c j h l =
     rw (e, f, code_is u across up c h) (from_bit (cell_at u across up) (length across) j)
 
 -- so the code says which cells have a star, and nothing else: neither the stars' order nor a second star in a cell changes it
-pub same-cells : (u u' : Unit) (across up across' up' : List Float) (c c' : ℕ) → sky_answer u across up ≡ sky.Code c → sky_answer u' across' up' ≡ sky.Code c'
+pub same-cells : (u u' : Unit) (across up across' up' : List Float) (c c' : ℕ) → sky_answer u across up ≡ Ok c → sky_answer u' across' up' ≡ Ok c'
     → ((j : ℕ) → has j (cells u across up) ≡ has j (cells u' across' up')) → c ≡ c'
 same-cells u u' across up across' up' c c' h h' e =
     code_is u across up c h ∙ same_digits _ _ (λ j. from_bit _ _ j ∙ ap one_if (e j) ∙ sym (from_bit _ _ j)) ∙ sym (code_is u' across' up' c' h')

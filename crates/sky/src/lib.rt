@@ -2,73 +2,55 @@
 #![tactic(auto)]
 
 ghost use Rattle.std.specs.Prelude.{true, ◌≡◌};
-ghost use Rattle.scope.specs.Sky.{angle_of, finite, in_field};
+ghost use Rattle.scope.specs.Sky.{angle_of, in_field};
 ghost use Rattle.scope.specs.Sky.{given as Sky·given, degrees as Sky·degrees, column as Sky·column};
 ghost use Rattle.scope.specs.Calls.{sky_answer};
 ghost use Rattle.sky.specs.Place.{place_of, star_of};
 
-use scope::{Angle, Refusal, Sky, Unit};
+use scope::{Angle, Refusal, Unit};
 
 const MOST_STARS: usize = 4096;
 
-// Where an angle (its column or row) or a star (its cell) lies, or the refusal that it gives.
-#[derive(Clone, Copy)]
-enum Place {
-    At(u32),
-    Refused(Refusal),
-}
-
-// The code of the stars, each of which sets the bit of its cell; or the first refusal, star by star.
-pub fn code(unit: Unit, across: &[f64], up: &[f64]) -> Sky
+// The code of the stars, each of which sets the bit of its cell; or the first refusal, star by star. Two lists, as C lends them.
+pub fn code(unit: Unit, across: &[f64], up: &[f64]) -> Result<u64, Refusal>
     ensures { result ≡ sky_answer unit across.now up.now }
 {
     if across.len() != up.len() || across.len() > MOST_STARS {
-        return Sky::Refused(Refusal::Offsets);
+        return Err(Refusal::Offsets);
     }
     let mut code: u64 = 0;
-    for k in 0..across.len() {
-        match star(k as u32, in_unit(unit, across[k]), in_unit(unit, up[k])) {
-            Place::At(cell) => {
-                code |= 1 << cell;
-            }
-            Place::Refused(why) => {
-                return Sky::Refused(why);
-            }
-        }
+    for (k, (&x, &y)) in across.iter().zip(up).enumerate() {
+        let cell = star(k as u32, in_unit(unit, x), in_unit(unit, y))?;
+        code |= 1 << cell;
     }
-    Sky::Code(code)
+    Ok(code)
 }
 
 // The cell of star k, 8 * row + column. Across is judged before up.
-fn star(k: u32, across: Angle, up: Angle) -> Place
+fn star(k: u32, across: Angle, up: Angle) -> Result<u32, Refusal>
     ensures { result ≡ star_of k across up }
 {
-    let across = place_of(k, across);
-    let Place::At(column) = across else {
-        return across;
-    };
-    let up = place_of(k, up);
-    let Place::At(row) = up else {
-        return up;
-    };
-    Place::At(8 * row + column)
+    let column = place_of(k, across)?;
+    let row = place_of(k, up)?;
+    Ok(8 * row + column)
 }
 
 // The column (or row) of an angle of star k.
-fn place_of(k: u32, angle: Angle) -> Place
+#[tactic(auto, using(crate::proofs::Places::same_test), unfolding(crate::specs::Place::place_of, scope::specs::Refusals::unless))]
+fn place_of(k: u32, angle: Angle) -> Result<u32, Refusal>
     ensures { result ≡ place_of k angle }
 {
-    if !is_finite(given(angle)) {
-        return Place::Refused(Refusal::NotFinite(k));
+    if !given(angle).is_finite() {
+        return Err(Refusal::NotFinite(k));
     }
     let d = degrees(angle);
     if !in_field(d) {
-        return Place::Refused(Refusal::Outside(k));
+        return Err(Refusal::Outside(k));
     }
-    Place::At(column(d))
+    Ok(column(d))
 }
 
-// The column of an angle in degrees.
+// The column of an angle in degrees. A test for each edge: d + 4.0 would be rounded, maybe across an edge.
 fn column(d: f64) -> u32
     requires { in_field d ≡ true }
     ensures { result ≡ Sky·column d }
@@ -98,14 +80,7 @@ fn in_field(d: f64) -> bool
     -4.0 <= d && d < 4.0
 }
 
-// Neither infinite nor not a number.
-fn is_finite(x: f64) -> bool
-    ensures { result ≡ finite x }
-{
-    let infinity = 1.0 / 0.0;
-    -infinity < x && x < infinity
-}
-
+#[tactic(auto, unfolding(scope::specs::Sky::angle_of))]
 fn in_unit(unit: Unit, x: f64) -> Angle
     ensures { result ≡ angle_of unit x }
 {
@@ -116,12 +91,12 @@ fn in_unit(unit: Unit, x: f64) -> Angle
 }
 
 // The number as it came, whatever its unit.
+#[tactic(auto, unfolding(scope::specs::Sky::given))]
 fn given(angle: Angle) -> f64
     ensures { result ≡ Sky·given angle }
 {
     match angle {
-        Angle::Degrees(x) => x,
-        Angle::Radians(x) => x,
+        Angle::Degrees(x) | Angle::Radians(x) => x,
     }
 }
 

@@ -1,41 +1,64 @@
 // The tables of a catalogue: the builder and the check.
 #![tactic(auto)]
 
-ghost use Rattle.std.specs.Prelude.{◌≡◌};
+ghost use Rattle.std.specs.Prelude.{◌≡◌, Ok, true, ◌*◌, ◌≤◌, ◌<◌, length};
 ghost use Rattle.theory.specs.Lists.{over};
+ghost use Rattle.scope.specs.Shape.{m, first_bit};
 ghost use Rattle.scope.specs.Tables.{index, built_starts, built_ids, sound};
 ghost use Rattle.scope.specs.Calls.{build_answer, builds, build_end, check_answer};
+ghost use Rattle.tables.specs.Parts.{IsPart};
 
-use buckets::{Table, build_table, check_table};
-use scope::{Built, Checked, Shape};
-use shapes::{Early, bits, refused_early, starts_before, tables};
+use buckets::Table;
+use scope::{Index, Refusal, Shape};
+use shapes::{Accepted, ListedShape};
 
-// Fills each table's part of both lists.
-fn fill(shape: Shape, stars: &[u32], codes: &[u64], starts: &mut [u32], ids: &mut [u32])
-    requires { build_answer (index shape stars.now codes.now starts.old ids.old) ≡ Built.Done }
+// Table z, and its parts of the two lists: the starts from `from` to `end`, the ids from `at` to `to`.
+#[derive(Clone, Copy)]
+struct Part<'a> {
+    table: Table<'a>,
+    from: usize,
+    end: usize,
+    at: usize,
+    to: usize,
+}
+
+impl<'a> Part<'a> {
+    // Substring z begins at `bit`. How many bits it has is worked out here, once for all the entries.
+    fn of(shape: ListedShape, n: usize, codes: &'a [u64], z: usize, bit: usize) -> Part<'a>
+        requires shape { (z < m shape) × (bit ≡ first_bit shape z) }
+        requires codes { (n ≤ 65536) × (length codes.now ≡ n * shape.w) }
+        ensures { IsPart shape n codes.now z result }
+    {
+        let table = Table {
+            codes,
+            w: shape.shape.w as usize,
+            from: bit,
+            bits: shape.bits(z),
+            n,
+        };
+        Part {
+            table,
+            from: shape.starts_before(z),
+            end: shape.starts_before(z + 1),
+            at: z * n,
+            to: z * n + n,
+        }
+    }
+}
+
+// Fills each table's part of both lists. They stand apart from an Index, since they are written.
+fn fill(shape: ListedShape, stars: &[u32], codes: &[u64], starts: &mut [u32], ids: &mut [u32])
+    requires { build_answer (index shape stars.now codes.now starts.old ids.old) ≡ Ok tt }
     ensures starts_after { starts.new ≡ over (built_starts (index shape stars.now codes.now starts.old ids.old)) starts.old }
     ensures ids_after { ids.new ≡ over (built_ids (index shape stars.now codes.now starts.old ids.old)) ids.old }
 {
-    let n = stars.len();
-    let m = tables(shape);
-    let mut z = 0;
     // substring z's first bit
     let mut bit = 0;
-    while z < m {
-        let from = starts_before(shape, z);
-        let end = starts_before(shape, z + 1);
-        let at = z * n;
-        let to = at + n;
-        let len = bits(shape, z);
-        let t = Table {
-            w: shape.w as usize,
-            from: bit,
-            bits: len,
-            n: n,
-        };
-        build_table(t, codes, &mut starts[from..end], &mut ids[at..to]);
-        bit += len;
-        z += 1;
+    for z in 0..shape.m() {
+        let p = Part::of(shape, stars.len(), codes, z, bit);
+        p.table
+            .build(&mut starts[p.from..p.end], &mut ids[p.at..p.to]);
+        bit += p.table.bits;
     }
 }
 
@@ -46,59 +69,44 @@ pub fn build(
     codes: &[u64],
     starts: &mut [u32],
     ids: &mut [u32],
-) -> Built
+) -> Result<(), Refusal>
     ensures { builds result starts.new ids.new ≡ build_end (index shape stars.now codes.now starts.old ids.old) }
 {
-    let early = refused_early(shape, stars, codes, starts, ids);
-    if let Early::Refused(refusal) = early {
-        return Built::Refused(refusal);
-    }
-    fill(shape, stars, codes, starts, ids);
-    Built::Done
+    let accepted = Accepted::of(&Index {
+        shape,
+        stars,
+        codes,
+        starts,
+        ids,
+    })?;
+    fill(accepted.shape, stars, codes, starts, ids);
+    Ok(())
 }
 
 // Whether each table's parts are what the builder writes.
-fn all_right(shape: Shape, stars: &[u32], codes: &[u64], starts: &[u32], ids: &[u32]) -> bool
-    requires { build_answer (index shape stars.now codes.now starts.now ids.now) ≡ Built.Done }
-    ensures { result ≡ sound (index shape stars.now codes.now starts.now ids.now) }
+fn all_right(index: &Accepted<'_>) -> bool
+    ensures { result ≡ sound index.now }
 {
-    let n = stars.len();
-    let m = tables(shape);
-    let mut z = 0;
+    let shape = index.shape;
     // substring z's first bit
     let mut bit = 0;
-    while z < m {
-        let from = starts_before(shape, z);
-        let end = starts_before(shape, z + 1);
-        let at = z * n;
-        let to = at + n;
-        let len = bits(shape, z);
-        let t = Table {
-            w: shape.w as usize,
-            from: bit,
-            bits: len,
-            n: n,
-        };
-        if !check_table(t, codes, &starts[from..end], &ids[at..to]) {
+    for z in 0..shape.m() {
+        let p = Part::of(shape, index.entries(), index.codes, z, bit);
+        if !p
+            .table
+            .check(&index.starts[p.from..p.end], &index.ids[p.at..p.to])
+        {
             return false;
         }
-        bit += len;
-        z += 1;
+        bit += p.table.bits;
     }
     true
 }
 
 // Says yes exactly when the used parts of both lists are what the builder writes.
-pub fn check(shape: Shape, stars: &[u32], codes: &[u64], starts: &[u32], ids: &[u32]) -> Checked
-    ensures { result ≡ check_answer (index shape stars.now codes.now starts.now ids.now) }
+pub fn check(index: &Index<'_>) -> Result<bool, Refusal>
+    ensures { result ≡ check_answer index.now }
 {
-    let early = refused_early(shape, stars, codes, starts, ids);
-    if let Early::Refused(refusal) = early {
-        return Checked::Refused(refusal);
-    }
-    if all_right(shape, stars, codes, starts, ids) {
-        Checked::Yes
-    } else {
-        Checked::No
-    }
+    let accepted = Accepted::of(index)?;
+    Ok(all_right(&accepted))
 }

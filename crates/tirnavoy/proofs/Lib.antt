@@ -1,3 +1,2 @@
--- Laws behind the proofs of the exported functions; and that each statement determines how a call ends.
-pub mod Ending
+-- Each statement determines how a call ends.
 pub mod Determined

@@ -1,18 +1,47 @@
 // The library for C: plain numbers and lists in, a refusal's number back, everything else through the outs.
 #![tactic(auto)]
 
-ghost use Rattle.std.specs.Prelude.{◌≡◌, [], ◌∷◌, length};
+ghost use Rattle.std.specs.Prelude.{◌≡◌, ◌≤◌, [], ◌∷◌, length, min};
 ghost use Rattle.scope.specs.Batch.{batch, fills, batch_end};
 ghost use Rattle.scope.specs.Calls.{asked, build_end, check_answer, nearest_end, within_end, verdict_end, blackboard_answer, sky_answer};
 ghost use Rattle.scope.specs.Walk.{question};
 ghost use Rattle.scope.specs.Shape.{shape};
 ghost use Rattle.scope.specs.Tables.{index};
-ghost use Rattle.scope.specs.Refusals.{refusal, of_checked, of_found, of_verdict, of_judged, of_sky, of_blackboard};
+ghost use Rattle.scope.specs.Refusals.{refusal, of_built, of_checked, of_found, of_verdict, of_judged, of_sky, of_blackboard};
 ghost use Rattle.tirnavoy.specs.Outs.{one_out, sky_outs, search_outs, spoken, verdict_outs, built, searched, told};
 
-use scope::{
-    Answer, Blackboard, Built, Checked, Found, Judged, Refusal, Shape, Sky, Unit, Verdict,
-};
+use scope::{Answer, Index, Refusal, Report, Shape, Unit, Verdict, VerdictReport};
+
+// 0, or the refusal's number.
+fn number(said: Result<(), Refusal>) -> u32
+    ensures { result ≡ (of_built said).0 }
+{
+    match said {
+        Ok(()) => 0,
+        Err(refusal) => refusal.number(),
+    }
+}
+
+// The lists of a catalogue and its tables, as the calls take them.
+fn index<'a>(
+    w: u32,
+    m: u32,
+    stars: &'a [u32],
+    codes: &'a [u64],
+    starts: &'a [u32],
+    ids: &'a [u32],
+) -> Index<'a>
+    ensures { result ≡ index (shape w m) stars.now codes.now starts.now ids.now }
+{
+    let shape = Shape { w, m };
+    Index {
+        shape,
+        stars,
+        codes,
+        starts,
+        ids,
+    }
+}
 
 // Fills the tables of a catalogue.
 #[unsafe(no_mangle)]
@@ -26,11 +55,8 @@ pub extern "C" fn tirnavoy_build(
 ) -> u32
     ensures { (result, starts.new, ids.new) ≡ built (build_end (index (shape w m) stars.now codes.now starts.old ids.old)) }
 {
-    let shape = Shape { w: w, m: m };
-    match tables::build(shape, stars, codes, starts, ids) {
-        Built::Done => 0,
-        Built::Refused(refusal) => refusal.number(),
-    }
+    let shape = Shape { w, m };
+    number(tables::build(shape, stars, codes, starts, ids))
 }
 
 // Whether tables are what the builder writes.
@@ -46,71 +72,31 @@ pub extern "C" fn tirnavoy_check(
 ) -> u32
     ensures { result ∷ sound.new ∷ [] ≡ one_out (of_checked (check_answer (index (shape w m) stars.now codes.now starts.now ids.now))) }
 {
-    let shape = Shape { w: w, m: m };
-    *sound = 0;
-    match tables::check(shape, stars, codes, starts, ids) {
-        Checked::Yes => {
-            *sound = 1;
+    let index = index(w, m, stars, codes, starts, ids);
+    match tables::check(&index) {
+        Ok(said) => {
+            *sound = u32::from(said);
             0
         }
-        Checked::No => 0,
-        Checked::Refused(refusal) => refusal.number(),
+        Err(refusal) => {
+            *sound = 0;
+            refusal.number()
+        }
     }
 }
 
-// A search's refusal through its outs: after 6 T stands in `answers`, after 7 the bad bucket's table and number.
-fn refused(
-    why: Refusal,
-    answers: &mut u32,
-    opened: &mut u32,
-    tested: &mut u32,
-    table: &mut u32,
-    bucket: &mut u32,
-) -> u32
-    ensures { result ∷ answers.new ∷ opened.new ∷ tested.new ∷ table.new ∷ bucket.new ∷ [] ≡ search_outs (refusal why) }
-{
-    let number = why.number();
-    let first = why.first();
-    *opened = 0;
-    *tested = 0;
-    *bucket = why.second();
-    if number == 6 {
-        *answers = first;
-        *table = 0;
-        return number;
-    }
-    *answers = 0;
-    *table = first;
-    number
-}
-
-// A search's answer through its outs.
-fn report(
-    found: Found,
-    answers: &mut u32,
-    opened: &mut u32,
-    tested: &mut u32,
-    table: &mut u32,
-    bucket: &mut u32,
-) -> u32
-    ensures { result ∷ answers.new ∷ opened.new ∷ tested.new ∷ table.new ∷ bucket.new ∷ [] ≡ search_outs (of_found found) }
+// What a search returns, and its outs: after 6 T stands in `answers`, after 7 the bad bucket's table and number in the last two.
+fn search_outs(found: Result<Report, Refusal>) -> [u32; 6]
+    ensures { result ≡ search_outs (of_found found) }
 {
     match found {
-        Found::Listed(report) => {
-            let o = report.opened;
-            let t = report.tested;
-            *answers = report.answers;
-            *opened = o.0;
-            *tested = t.0;
-            *table = 0;
-            *bucket = 0;
-            0
-        }
-        Found::Refused(why) => refused(why, answers, opened, tested, table, bucket),
+        Ok(report) => [0, report.answers, report.opened.0, report.tested.0, 0, 0],
+        Err(why @ Refusal::TooMany(answers)) => [why.number(), answers, 0, 0, 0, 0],
+        Err(refusal) => [refusal.number(), 0, 0, 0, refusal.first(), refusal.second()],
     }
 }
 
-// The k nearest entries.
+// The k nearest entries. C calls no generic function, so that each search has its own.
 #[unsafe(no_mangle)]
 pub extern "C" fn tirnavoy_nearest(
     w: u32,
@@ -132,11 +118,15 @@ pub extern "C" fn tirnavoy_nearest(
 ) -> u32
     ensures { (result ∷ answers.new ∷ opened.new ∷ tested.new ∷ table.new ∷ bucket.new ∷ [], marks.new, entries.new, distances.new) ≡ searched (nearest_end (asked (question (index (shape w m) stars.now codes.now starts.now ids.now) query.now) marks.old entries.old distances.old) k) }
 {
-    let shape = Shape { w: w, m: m };
-    let found = search::nearest(
-        shape, stars, codes, starts, ids, query, k, marks, entries, distances,
-    );
-    report(found, answers, opened, tested, table, bucket)
+    let index = index(w, m, stars, codes, starts, ids);
+    let found = search::nearest(&index, query, k, marks, entries, distances);
+    let [refusal, a, o, t, z, v] = search_outs(found);
+    *answers = a;
+    *opened = o;
+    *tested = t;
+    *table = z;
+    *bucket = v;
+    refusal
 }
 
 // All entries within r.
@@ -161,58 +151,58 @@ pub extern "C" fn tirnavoy_within(
 ) -> u32
     ensures { (result ∷ answers.new ∷ opened.new ∷ tested.new ∷ table.new ∷ bucket.new ∷ [], marks.new, entries.new, distances.new) ≡ searched (within_end (asked (question (index (shape w m) stars.now codes.now starts.now ids.now) query.now) marks.old entries.old distances.old) r) }
 {
-    let shape = Shape { w: w, m: m };
-    let found = search::within(
-        shape, stars, codes, starts, ids, query, r, marks, entries, distances,
-    );
-    report(found, answers, opened, tested, table, bucket)
+    let index = index(w, m, stars, codes, starts, ids);
+    let found = search::within(&index, query, r, marks, entries, distances);
+    let [refusal, a, o, t, z, v] = search_outs(found);
+    *answers = a;
+    *opened = o;
+    *tested = t;
+    *table = z;
+    *bucket = v;
+    refusal
 }
 
 // The k nearest entries to each of up to 256 queries: four numbers and k records for each. A small k needs little scratch, and less is cleared.
 #[unsafe(no_mangle)]
-pub extern "C" fn tirnavoy_batch<'s, 'm, 'o, 'r>(
+pub extern "C" fn tirnavoy_batch(
     w: u32,
     m: u32,
-    stars: &'s [u32],
-    codes: &'s [u64],
-    starts: &'s [u32],
-    ids: &'s [u32],
-    queries: &'s [u64],
+    stars: &[u32],
+    codes: &[u64],
+    starts: &[u32],
+    ids: &[u32],
+    queries: &[u64],
     k: u32,
-    marks: &'m mut [u64],
-    outcomes: &'o mut [u32],
-    records: &'r mut [Answer],
+    marks: &mut [u64],
+    outcomes: &mut [u32],
+    records: &mut [Answer],
 ) -> u32
     ensures { fills result marks.new outcomes.new records.new ≡ batch_end (batch (index (shape w m) stars.now codes.now starts.now ids.now) queries.now k marks.old outcomes.old (length records.old)) records.old }
 {
+    let index = index(w, m, stars, codes, starts, ids);
     if k <= 1024 {
-        let mut entries = [0u32; 1024];
-        let mut distances = [0u32; 1024];
-        return batch::fill(
-            w,
-            m,
-            stars,
-            codes,
-            starts,
-            ids,
-            queries,
-            k,
-            marks,
-            outcomes,
-            &mut entries,
-            &mut distances,
-            records,
-        );
+        batch_in::<1024>(&index, queries, k, marks, outcomes, records)
+    } else {
+        batch_in::<65536>(&index, queries, k, marks, outcomes, records)
     }
-    let mut entries = [0u32; 65536];
-    let mut distances = [0u32; 65536];
-    batch::fill(
-        w,
-        m,
-        stars,
-        codes,
-        starts,
-        ids,
+}
+
+// The same, with scratch of N places.
+fn batch_in<const N: usize>(
+    index: &Index<'_>,
+    queries: &[u64],
+    k: u32,
+    marks: &mut [u64],
+    outcomes: &mut [u32],
+    records: &mut [Answer],
+) -> u32
+    requires { (min k 65536 ≤ N) × (N ≤ 65536) }
+    ensures { fills result marks.new outcomes.new records.new ≡ batch_end (batch index.now queries.now k marks.old outcomes.old (length records.old)) records.old }
+{
+    let mut entries = [0u32; N];
+    let mut distances = [0u32; N];
+    number(batch::fill(
+        index,
         queries,
         k,
         marks,
@@ -220,86 +210,50 @@ pub extern "C" fn tirnavoy_batch<'s, 'm, 'o, 'r>(
         &mut entries,
         &mut distances,
         records,
-    )
+    ))
 }
 
-// A verdict through its outs.
-fn speak(
-    verdict: Verdict,
-    kind: &mut u32,
-    star: &mut u32,
-    other: &mut u32,
-    distance: &mut u32,
-    farther: &mut u32,
-)
-    ensures { kind.new ∷ star.new ∷ other.new ∷ distance.new ∷ farther.new ∷ [] ≡ spoken (of_verdict verdict) }
+// A verdict as numbers: its kind, the nearest's star, the other star, the nearest's distance, the other's.
+fn spoken(verdict: Verdict) -> [u32; 5]
+    ensures { result ≡ spoken (of_verdict verdict) }
 {
-    *other = 0;
-    *farther = 0;
     match verdict {
-        Verdict::None => {
-            *kind = 0;
-            *star = 0;
-            *distance = 0;
-        }
+        Verdict::None => [0; 5],
         Verdict::Unsure {
-            star: s,
-            other: o,
-            distance: d,
-            farther: f,
-        } => {
-            *kind = 1;
-            *star = s;
-            *other = o;
-            *distance = d;
-            *farther = f;
-        }
-        Verdict::Match {
-            star: s,
-            distance: d,
-        } => {
-            *kind = 2;
-            *star = s;
-            *distance = d;
-        }
+            star,
+            other,
+            distance,
+            farther,
+        } => [1, star, other, distance, farther],
+        Verdict::Match { star, distance } => [2, star, 0, distance, 0],
     }
 }
 
-// A verdict's report through its outs.
-fn judged(
-    given: Judged,
-    kind: &mut u32,
-    star: &mut u32,
-    other: &mut u32,
-    distance: &mut u32,
-    farther: &mut u32,
-    opened: &mut u32,
-    tested: &mut u32,
-    table: &mut u32,
-    bucket: &mut u32,
-) -> u32
-    ensures { result ∷ kind.new ∷ star.new ∷ other.new ∷ distance.new ∷ farther.new ∷ opened.new ∷ tested.new ∷ table.new ∷ bucket.new ∷ [] ≡ verdict_outs (of_judged given) }
+// What a verdict's search returns, and its outs.
+fn verdict_outs(given: Result<VerdictReport, Refusal>) -> [u32; 10]
+    ensures { result ≡ verdict_outs (of_judged given) }
 {
     match given {
-        Judged::Given(report) => {
-            let verdict = report.verdict;
-            let o = report.opened;
-            let t = report.tested;
-            speak(verdict, kind, star, other, distance, farther);
-            *opened = o.0;
-            *tested = t.0;
-            *table = 0;
-            *bucket = 0;
-            0
+        Ok(report) => {
+            let [kind, star, other, distance, farther] = spoken(report.verdict);
+            let opened = report.opened.0;
+            let tested = report.tested.0;
+            [
+                0, kind, star, other, distance, farther, opened, tested, 0, 0,
+            ]
         }
-        Judged::Refused(refusal) => {
-            speak(Verdict::None, kind, star, other, distance, farther);
-            *opened = 0;
-            *tested = 0;
-            *table = refusal.first();
-            *bucket = refusal.second();
-            refusal.number()
-        }
+        Err(refusal) => [
+            refusal.number(),
+            0,
+            0,
+            0,
+            0,
+            0,
+            0,
+            0,
+            refusal.first(),
+            refusal.second(),
+        ],
     }
 }
 
@@ -328,11 +282,19 @@ pub extern "C" fn tirnavoy_verdict(
 ) -> u32
     ensures { (result ∷ verdict.new ∷ star.new ∷ other.new ∷ distance.new ∷ farther.new ∷ opened.new ∷ tested.new ∷ table.new ∷ bucket.new ∷ [], marks.new) ≡ told (verdict_end (question (index (shape w m) stars.now codes.now starts.now ids.now) query.now) marks.old t g) }
 {
-    let shape = Shape { w: w, m: m };
-    let given = search::verdict(shape, stars, codes, starts, ids, query, t, g, marks);
-    judged(
-        given, verdict, star, other, distance, farther, opened, tested, table, bucket,
-    )
+    let index = index(w, m, stars, codes, starts, ids);
+    let given = search::verdict(&index, query, t, g, marks);
+    let [refusal, kind, s, o, d, f, b, e, z, v] = verdict_outs(given);
+    *verdict = kind;
+    *star = s;
+    *other = o;
+    *distance = d;
+    *farther = f;
+    *opened = b;
+    *tested = e;
+    *table = z;
+    *bucket = v;
+    refusal
 }
 
 // How many buckets are open after the step.
@@ -340,13 +302,13 @@ pub extern "C" fn tirnavoy_verdict(
 pub extern "C" fn tirnavoy_blackboard(w: u32, m: u32, step: u32, buckets: &mut u32) -> u32
     ensures { result ∷ buckets.new ∷ [] ≡ one_out (of_blackboard (blackboard_answer (shape w m) step)) }
 {
-    let shape = Shape { w: w, m: m };
+    let shape = Shape { w, m };
     match blackboard::count(shape, step) {
-        Blackboard::Buckets(opened) => {
+        Ok(opened) => {
             *buckets = opened.0;
             0
         }
-        Blackboard::Refused(refusal) => {
+        Err(refusal) => {
             *buckets = 0;
             refusal.number()
         }
@@ -357,12 +319,12 @@ fn sky_code(unit: Unit, across: &[f64], up: &[f64], code: &mut u64, place: &mut 
     ensures { result ∷ code.new ∷ place.new ∷ [] ≡ sky_outs (of_sky (sky_answer unit across.now up.now)) }
 {
     match sky::code(unit, across, up) {
-        Sky::Code(made) => {
+        Ok(made) => {
             *code = made;
             *place = 0;
             0
         }
-        Sky::Refused(refusal) => {
+        Err(refusal) => {
             *code = 0;
             *place = refusal.first();
             refusal.number()
@@ -370,7 +332,7 @@ fn sky_code(unit: Unit, across: &[f64], up: &[f64], code: &mut u64, place: &mut 
     }
 }
 
-// The code of stars at offsets in degrees, and in radians.
+// The code of stars at offsets in degrees, and in radians. Two functions, since from C a unit given as a number could be neither.
 #[unsafe(no_mangle)]
 pub extern "C" fn tirnavoy_sky_degrees(
     across: &[f64],

@@ -14,7 +14,8 @@ use Rattle.scope.specs.Refusals.{unless, lent}
 use Rattle.scope.specs.Calls.{report, build_answer, build_end, nearest_answer, nearest_end, within_answer, within_end, search_end, verdict_report, verdict_answer, verdict_end}
 use Rattle.reading.specs.Bytes.{number_at}
 use Rattle.reading.specs.Records.{wanted, rest_of, meaning_of, record_of}
-use Rattle.lines.specs.Text.{decimal, decimal_in, hex}
+use Rattle.std.specs.Fmt.{digits}
+use Rattle.lines.specs.Text.{hex}
 use Rattle.lines.specs.Lines.{answer_lines}
 use Rattle.transcript.specs.Questions.{reply}
 use Rattle.transcript.specs.Transcript.{built, printed, transcript}
@@ -87,7 +88,7 @@ abbrev nine : List ℕ
 nine = 57 ∷ 32 ∷ 119 ∷ 105 ∷ 116 ∷ 104 ∷ 105 ∷ 110 ∷ 32 ∷ 49 ∷ 32 ∷ 50 ∷ 32 ∷ 51 ∷ 10 ∷ []
 
 whole : transcript input ≡ stars5 ++ seven ++ first ++ second ++ eight ++ nine ++ first
-unfolding transcript printed built reply record_of meaning_of rest_of wanted number_at decimal decimal_in hex answer_lines build_end build_answer built_starts built_ids nearest_end within_end search_end verdict_end lent nearest_answer within_answer verdict_answer verdict_report report unless nearest_steps nearest within_steps within ranked two_stars first_other rivals verdict_steps nearest_rivals verdict_of first_from near tested opened opens bad bad_id start id_at substring_of listed starts_before first_bit len substring distance code_of bit sum cat any ones
+unfolding transcript printed built reply record_of meaning_of rest_of wanted number_at digits hex answer_lines build_end build_answer built_starts built_ids nearest_end within_end search_end verdict_end lent nearest_answer within_answer verdict_answer verdict_report report unless nearest_steps nearest within_steps within ranked two_stars first_other rivals verdict_steps nearest_rivals verdict_of first_from near tested opened opens bad bad_id start id_at substring_of listed starts_before first_bit len substring distance code_of bit sum cat any ones
 whole = refl
 
 -- ---- the end of the input
@@ -98,7 +99,7 @@ stars0 = 115 ∷ 116 ∷ 97 ∷ 114 ∷ 115 ∷ 32 ∷ 48 ∷ 10 ∷ []
 
 -- after the head alone, and before it
 lone_head : transcript head ≡ stars0
-unfolding transcript printed record_of meaning_of rest_of wanted number_at decimal decimal_in
+unfolding transcript printed record_of meaning_of rest_of wanted number_at digits
 lone_head = refl
 
 empty-input : transcript [] ≡ []

@@ -13,20 +13,20 @@ use lib.Seq.{take-suc-set}
 use Rattle.theory.proofs.Tests.{both_ways, lt-or-le}
 use Rattle.scope.specs.declared.Shape.{Shape}
 use Rattle.scope.specs.Tables.{Index, index}
-use Rattle.scope.specs.declared.Built.TheVariants.{Done}
 use Rattle.scope.specs.Calls.{build_end, build_answer}
 use Rattle.reading.specs.declared.Session.{Session}
 use Rattle.reading.specs.declared.Code.{Code}
 use Rattle.reading.specs.declared.Question.{Question}
-use Rattle.reading.specs.declared.Record.{Record}
-use Rattle.reading.specs.declared.Record.TheVariants.{Over, Bad, Head, Entry, Ask}
-use Rattle.reading.specs.Records.{record_of}
+use Rattle.reading.specs.declared.Record.TheVariants.{Head, Entry, Ask}
+use Rattle.reading.specs.Records.{Next, record_of}
+use Rattle.std.specs.Prelude.{Some, None, Ok, Err}
 use Rattle.reading.proofs.Going.{head_first, entry_next, ask_last}
 use Rattle.reading.specs.State.{start_of, number_of, next_of}
 use Rattle.transcript.specs.Opening.{opening}
 use Rattle.transcript.specs.Questions.{shape_of, words_of, reply}
 use Rattle.transcript.specs.Transcript.{built, fresh, text_in, stars_with, codes_with}
-use Rattle.transcript.specs.Turn.{Desk, code_kept, starts_for, ids_for, index_for, desk_after, text_of, empty}
+use Rattle.transcript.specs.Turn.{code_kept, starts_for, ids_for, index_for, desk_after, text_of, empty}
+use Rattle.transcript.specs.declared.Desk.{Desk}
 use Rattle.transcript.proofs.Room.{Headed, builds}
 use Rattle.transcript.proofs.Replies.{Sized, fresh_sized, same_text, still_sized}
 
@@ -110,7 +110,7 @@ module _ (session : Session) (d : Desk) (stars codes : List ℕ) (link : Linked 
       index_is (shape_of session) link.kept link.held p q
 
   -- the tables are what the builder writes: after the head it is never refused
-  pub never_refused : (session.words ≡ 0 → ⊥) → build_answer (index (shape_of session) stars codes (replicate 4112 0) (replicate 16384 0)) ≡ Done
+  pub never_refused : (session.words ≡ 0 → ⊥) → build_answer (index (shape_of session) stars codes (replicate 4112 0) (replicate 16384 0)) ≡ Ok tt
   never_refused some =
       let long : length codes ≡ session.entries * session.words =
       ap length (sym link.held) ∙ length-take-le (session.entries * session.words) d.codes
@@ -118,21 +118,21 @@ module _ (session : Session) (d : Desk) (stars codes : List ℕ) (link : Linked 
       builds (shape_of session) (link.headed some) stars codes (omega (arith, link.count, link.few)) (rw link.count long)
 
   -- a question prints what it prints over the catalogue, and keeps the link
-  ask-text : (question : Question) (s : List ℕ) → text_of session d s (Ask question) ≡ text_in session stars codes s (Ask question)
+  ask-text : (question : Question) (s : List ℕ) → text_of session d s (Ok (Some (Ask question))) ≡ text_in session stars codes s (Ok (Some (Ask question)))
   unfolding built
   ask-text question s =
       ap (λ (t : List ℕ). opening session ++ t)
       (ap (λ (x : Index). (reply (number_of session) x d.lists question s).text) index-built
       ∙ same_text (number_of session) (built (shape_of session) stars codes) (omega (arith, link.count, link.few)) d.lists fresh link.sized fresh_sized question s)
 
-  pub same_line : (s : List ℕ) (rec : Record) → text_of session d s rec ≡ text_in session stars codes s rec
-  same_line s Over = refl
-  same_line s Bad = refl
-  same_line s (Head w m) = refl
-  same_line s (Entry star code) = refl
-  same_line s (Ask question) = ask-text question s
+  pub same_line : (s : List ℕ) (rec : Next) → text_of session d s rec ≡ text_in session stars codes s rec
+  same_line s (Ok None) = refl
+  same_line s (Err f) = refl
+  same_line s (Ok (Some (Head w m))) = refl
+  same_line s (Ok (Some (Entry star code))) = refl
+  same_line s (Ok (Some (Ask question))) = ask-text question s
 
-  linked_head : (s : List ℕ) (w m : ℕ) → record_of session s ≡ Head w m → Linked (next_of session (Head w m)) d stars codes
+  linked_head : (s : List ℕ) (w m : ℕ) → record_of session s ≡ Ok (Some (Head w m)) → Linked (next_of session (Ok (Some (Head w m)))) d stars codes
   linked_head s w m e =
       let (none, (some, least, most)) = head_first session s w m e in
       let (z, quiet) = link.headless none in
@@ -152,8 +152,8 @@ module _ (session : Session) (d : Desk) (stars codes : List ℕ) (link : Linked 
         sized = link.sized;
       }
 
-  linked_entry : (s : List ℕ) (star : ℕ) (code : Code) → record_of session s ≡ Entry star code
-      → Linked (next_of session (Entry star code)) (desk_after session d s (Entry star code)) (stars ++ star ∷ []) (codes ++ words_of session.words code)
+  linked_entry : (s : List ℕ) (star : ℕ) (code : Code) → record_of session s ≡ Ok (Some (Entry star code))
+      → Linked (next_of session (Ok (Some (Entry star code)))) (desk_after session d s (Ok (Some (Entry star code)))) (stars ++ star ∷ []) (codes ++ words_of session.words code)
   linked_entry s star code e =
       let (some, quiet, few) = entry_next session s star code e in
       let w = one_or_two session.words some link.narrow in
@@ -173,8 +173,8 @@ module _ (session : Session) (d : Desk) (stars codes : List ℕ) (link : Linked 
         sized = link.sized;
       }
 
-  linked_ask : (s : List ℕ) (question : Question) → record_of session s ≡ Ask question
-      → Linked (next_of session (Ask question)) (desk_after session d s (Ask question)) stars codes
+  linked_ask : (s : List ℕ) (question : Question) → record_of session s ≡ Ok (Some (Ask question))
+      → Linked (next_of session (Ok (Some (Ask question)))) (desk_after session d s (Ok (Some (Ask question)))) stars codes
   linked_ask s question e =
       let t = tables_are session.asked refl in
       let n : length (take session.entries d.stars) ≡ session.entries = ap length link.kept ∙ link.count in
@@ -193,10 +193,10 @@ module _ (session : Session) (d : Desk) (stars codes : List ℕ) (link : Linked 
         sized = still_sized (number_of session) (index_for session d) (omega (arith, link.few)) d.lists link.sized question s;
       }
 
-  pub linked_on : (s : List ℕ) (rec : Record) → record_of session s ≡ rec
+  pub linked_on : (s : List ℕ) (rec : Next) → record_of session s ≡ rec
       → Linked (next_of session rec) (desk_after session d s rec) (stars_with stars rec) (codes_with session.words codes rec)
-  linked_on s Over e = link
-  linked_on s Bad e = link
-  linked_on s (Head w m) e = linked_head s w m e
-  linked_on s (Entry star code) e = linked_entry s star code e
-  linked_on s (Ask question) e = linked_ask s question e
+  linked_on s (Ok None) e = link
+  linked_on s (Err f) e = link
+  linked_on s (Ok (Some (Head w m))) e = linked_head s w m e
+  linked_on s (Ok (Some (Entry star code))) e = linked_entry s star code e
+  linked_on s (Ok (Some (Ask question))) e = linked_ask s question e

@@ -1,12 +1,13 @@
 -- What a search lists, prints and leaves: no more than n answers; the same text whatever the lists held; lists as long as they were. Assumes nothing.
+use Rattle.std.specs.Prelude.{Result, Ok, Err}
+use Rattle.scope.specs.declared.Report.{Report}
+use Rattle.scope.specs.declared.Refusal.{Refusal}
 use mathlib.Core.Path.{◌≡◌, refl, ap, ap₂, sym, ◌∙◌}
 use mathlib.Core.List.{List, ◌++◌}
 use Prim.Native.Nat.{ℕ, min, ◌≤◌}
 use native.Mathlib.Omega.{arith}
 use lib.ListN.{length, get_or, length-take}
 use Rattle.theory.proofs.Lists.{cat_cong}
-use Rattle.scope.specs.declared.Found.{Found}
-use Rattle.scope.specs.declared.Found.TheVariants as found
 use Rattle.scope.specs.Shape.{q}
 use Rattle.scope.specs.Tables.{Index, n}
 use Rattle.scope.specs.Walk.{tested}
@@ -19,7 +20,8 @@ use Rattle.scope.proofs.Rows.{unless_holds, lent_at, length-lent}
 use Rattle.reading.specs.declared.Question.{Question}
 use Rattle.reading.specs.declared.Question.TheVariants.{Nearest, Within, Verdict, Sky}
 use Rattle.lines.specs.Lines.{answer_line, answer_lines, answers_of, counts_line, found_lines, near, within as withinWord, judged_line}
-use Rattle.transcript.specs.Questions.{Lists, asks, reply}
+use Rattle.transcript.specs.Questions.{asks, reply}
+use Rattle.transcript.specs.declared.Lists.{Lists}
 use Rattle.transcript.specs.Transcript.{fresh}
 
 -- ---- how many answers there are
@@ -27,13 +29,13 @@ use Rattle.transcript.specs.Transcript.{fresh}
 pub nearest_few : (c : Asked) (k : ℕ) → answers_of (nearest_answer c k) ≤ K c.question.index k
 unfolding nearest_answer report nearest
 nearest_few c k =
-    unless_holds (λ r. answers_of r ≤ K c.question.index k) _ found.Refused _ (λ f. omega arith)
+    unless_holds (λ r. answers_of r ≤ K c.question.index k) _ Err _ (λ f. omega arith)
     (omega (arith, length-take (K c.question.index k) (answers c.question (tested c.question (nearest_steps c.question k)) (q c.question.index.shape))))
 
 pub within_few : (c : Asked) (r : ℕ) → answers_of (within_answer c r) ≤ n c.question.index
 unfolding within_answer report within
 within_few c r =
-    unless_holds (λ r. answers_of r ≤ n c.question.index) _ found.Refused _ (λ f. omega arith)
+    unless_holds (λ r. answers_of r ≤ n c.question.index) _ Err _ (λ f. omega arith)
     (few_answers c.question (tested c.question (within_steps c.question.index r)) r)
 
 -- ---- the answers do not go by what the lists hold
@@ -57,19 +59,19 @@ answer_lines_lem stars P l m e e' d d' k h =
     let o : get_or (lent 0 P m d) i 0 ≡ get_or (lent 0 P m d') i 0 = lent_at P m d i (omega arith) ∙ sym (lent_at P m d' i (omega arith)) in
     ap₂ (λ (x y : ℕ). answer_line x (get_or stars x 0) y) p o)
 
-found_lines_lem : (word : List ℕ) (number : ℕ) (r : Found) (stars : List ℕ) (P : ℕ) (l m e e' d d' : List ℕ) → answers_of r ≤ P
+found_lines_lem : (word : List ℕ) (number : ℕ) (r : Result Report Refusal) (stars : List ℕ) (P : ℕ) (l m e e' d d' : List ℕ) → answers_of r ≤ P
     → found_lines word number r stars (lent (of_found r).0 P l e) (lent (of_found r).0 P m d)
     ≡ found_lines word number r stars (lent (of_found r).0 P l e') (lent (of_found r).0 P m d')
-found_lines_lem word number (found.Listed report) stars P l m e e' d d' h =
+found_lines_lem word number (Ok report) stars P l m e e' d d' h =
     ap (λ (t : List ℕ). counts_line word number report ++ t) (answer_lines_lem stars P l m e e' d d' report.answers h)
-found_lines_lem word number (found.Refused f) stars P l m e e' d d' h = refl
+found_lines_lem word number (Err f) stars P l m e e' d d' h = refl
 
-found_same : (word : List ℕ) (number : ℕ) (r r' : Found) (stars : List ℕ) (P P' : ℕ) (l m e e' d d' : List ℕ) → r ≡ r' → P ≡ P' → answers_of r ≤ P
+found_same : (word : List ℕ) (number : ℕ) (r r' : Result Report Refusal) (stars : List ℕ) (P P' : ℕ) (l m e e' d d' : List ℕ) → r ≡ r' → P ≡ P' → answers_of r ≤ P
     → found_lines word number r stars (lent (of_found r).0 P l e) (lent (of_found r).0 P m d)
     ≡ found_lines word number r' stars (lent (of_found r').0 P' l e') (lent (of_found r').0 P' m d')
 found_same word number r r' stars P P' l m e e' d d' a b h =
     found_lines_lem word number r stars P l m e e' d d' h
-    ∙ ap₂ (λ (r : Found) (P : ℕ). found_lines word number r stars (lent (of_found r).0 P l e') (lent (of_found r).0 P m d')) a b
+    ∙ ap₂ (λ (r : Result Report Refusal) (P : ℕ). found_lines word number r stars (lent (of_found r).0 P l e') (lent (of_found r).0 P m d')) a b
 
 verdict-same : (ask : walk.Question) (marks marks' : List ℕ) (t g : ℕ) → length marks ≡ length marks' → verdict_answer ask marks t g ≡ verdict_answer ask marks' t g
 unfolding verdict_answer

@@ -1,4 +1,5 @@
 -- What a head names is a listed shape, and a session's lists have room for its tables: its catalogue is never refused 1 to 3. Assumes nothing.
+use Rattle.std.specs.Prelude.{Ok}
 use mathlib.Core.Path.{◌≡◌, refl}
 use mathlib.Core.Logic.{◌⊎◌, ⊎_elim}
 use mathlib.Core.Bool.{true, ◌||◌}
@@ -12,7 +13,6 @@ use borrow.Author.Tests.{eq-eqb, le-leb}
 use Rattle.theory.specs.Lists.{cat}
 use Rattle.theory.proofs.Tests.{or_left, or_right}
 use Rattle.scope.specs.declared.Shape.{Shape}
-use Rattle.scope.specs.declared.Built.TheVariants.{Done}
 use Rattle.scope.specs.Shape.{q, m, listed, starts_before}
 use Rattle.scope.specs.Tables.{index}
 use Rattle.scope.specs.Calls.{build_answer}
@@ -45,7 +45,7 @@ module _ (sh : Shape) (h : Headed sh) where
 
   -- so the builder writes the tables that every question is asked over
   pub builds : (stars codes : List ℕ) → length stars ≤ 512 → length codes ≡ length stars * sh.w
-      → build_answer (index sh stars codes (replicate 4112 0) (replicate 16384 0)) ≡ Done
+      → build_answer (index sh stars codes (replicate 4112 0) (replicate 16384 0)) ≡ Ok tt
   unfolding build_answer
   builds stars codes few whole =
       let x = index sh stars codes (replicate 4112 0) (replicate 16384 0) in
@@ -56,4 +56,4 @@ module _ (sh : Shape) (h : Headed sh) where
         starts = rw (length-replicate {A = ℕ} 4112 0) starts-room;
         ids = rw (length-replicate {A = ℕ} 16384 0) (omega (arith, two, h.most, mul-le-mul (let l : m sh ≤ 32 = omega (arith, two, h.most) in l) few));
       } in
-      unrefused x fits _ Done
+      unrefused x fits _ (Ok tt)

@@ -9,6 +9,7 @@ use Rattle.reading.specs.declared.Code.{Code}
 use Rattle.reading.specs.declared.Question.{Question}
 use Rattle.reading.specs.declared.Question.TheVariants.{Nearest, Within, Verdict, Sky}
 use Rattle.reading.specs.Offsets.{across_of, up_of}
+use Rattle.transcript.specs.declared.Lists.{Lists}
 use Rattle.lines.specs.Lines.{near, within, found_lines, judged_line, sky_line}
 
 -- a session's shape: the head's w and m
@@ -20,11 +21,6 @@ abbrev pub words_of : ℕ → Code → List ℕ
 words_of w code = cond (eqb w 2) (code.low ∷ code.high ∷ []) (code.low ∷ [])
 
 -- the lists lent to a search
-pub record Lists : Type 0 where
-  pub marks : List ℕ
-  pub entries : List ℕ
-  pub distances : List ℕ
-
 abbrev pub lists : List ℕ → List ℕ → List ℕ → Lists
 lists marks entries distances = record { marks = marks; entries = entries; distances = distances }
 

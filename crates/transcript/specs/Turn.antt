@@ -1,28 +1,21 @@
 -- One turn over lent lists: what a record leaves in each of them, and what is printed. Assumes nothing.
-use Rattle.std.specs.Prelude.{ℕ, ◌+◌, ◌*◌, ◌≡◌, true, false, cond, List, [], ◌++◌, eqb, length, take, set, replicate}
+use Rattle.std.specs.Prelude.{ℕ, ◌+◌, ◌*◌, ◌≡◌, cond, List, [], ◌++◌, eqb, length, take, set, replicate, Some, None, Ok, Err}
 use Rattle.theory.specs.Lists.{over}
 use Rattle.scope.specs.Tables.{Index, index}
 use Rattle.scope.specs.Calls.{build_end}
 use Rattle.reading.specs.declared.Session.{Session}
 use Rattle.reading.specs.declared.Code.{Code}
 use Rattle.reading.specs.declared.Question.{Question}
-use Rattle.reading.specs.declared.Record.{Record}
-use Rattle.reading.specs.declared.Record.TheVariants.{Over, Bad, Head, Entry, Ask}
-use Rattle.reading.specs.Records.{record_of, chunk_of, rest_of, ends}
+use Rattle.reading.specs.declared.Record.TheVariants.{Head, Entry, Ask}
+use Rattle.reading.specs.Records.{Next, record_of, chunk_of, rest_of, ends}
 use Rattle.lines.specs.Lines.{bad_line}
+use Rattle.transcript.specs.declared.Lists.{Lists}
+use Rattle.transcript.specs.declared.Desk.{Desk}
 use Rattle.transcript.specs.declared.Turned.{Turned}
 use Rattle.reading.specs.State.{number_of, next_of}
 use Rattle.transcript.specs.Opening.{opening, ending}
-use Rattle.transcript.specs.Questions.{shape_of, Lists, Reply, reply}
+use Rattle.transcript.specs.Questions.{shape_of, Reply, reply}
 use Rattle.transcript.specs.Transcript.{fresh}
-
--- the lists of a session: the entries' stars and codes, the tables, and those lent to the searches
-pub record Desk : Type 0 where
-  pub stars : List ℕ
-  pub codes : List ℕ
-  pub starts : List ℕ
-  pub ids : List ℕ
-  pub lists : Lists
 
 abbrev pub desk : List ℕ → List ℕ → List ℕ → List ℕ → Lists → Desk
 desk stars codes starts ids l = record { stars = stars; codes = codes; starts = starts; ids = ids; lists = l }
@@ -50,22 +43,22 @@ abbrev pub reply_to : Session → Desk → Question → List ℕ → Reply
 reply_to session d question s = reply (number_of session) (index_for session d) d.lists question s
 
 -- the lists after the record at the front of s
-abbrev pub desk_after : Session → Desk → List ℕ → Record → Desk
-desk_after session d s Over = d
-desk_after session d s Bad = d
-desk_after session d s (Head w m) = d
-desk_after session d s (Entry star code) =
+abbrev pub desk_after : Session → Desk → List ℕ → Next → Desk
+desk_after session d s (Ok None) = d
+desk_after session d s (Err f) = d
+desk_after session d s (Ok (Some (Head w m))) = d
+desk_after session d s (Ok (Some (Entry star code))) =
     desk (set d.stars session.entries star) (code_kept session.words session.entries code d.codes) d.starts d.ids d.lists
-desk_after session d s (Ask question) =
+desk_after session d s (Ok (Some (Ask question))) =
     desk d.stars d.codes (starts_for session d) (ids_for session d) (reply_to session d question s).lists
 
 -- and what it prints
-abbrev pub text_of : Session → Desk → List ℕ → Record → List ℕ
-text_of session d s Over = ending session
-text_of session d s Bad = bad_line (number_of session)
-text_of session d s (Head w m) = []
-text_of session d s (Entry star code) = []
-text_of session d s (Ask question) = opening session ++ (reply_to session d question s).text
+abbrev pub text_of : Session → Desk → List ℕ → Next → List ℕ
+text_of session d s (Ok None) = ending session
+text_of session d s (Err f) = bad_line (number_of session)
+text_of session d s (Ok (Some (Head w m))) = []
+text_of session d s (Ok (Some (Entry star code))) = []
+text_of session d s (Ok (Some (Ask question))) = opening session ++ (reply_to session d question s).text
 
 -- a turn's answer, and every list at the end; the text stands at the front of `out`
 pub record TurnEnd : Type 0 where
@@ -77,9 +70,9 @@ abbrev pub turns : Turned → Desk → List ℕ → TurnEnd
 turns r d out = record { answer = r; desk = d; out = out }
 
 -- the turn at the record rec at the front of s
-abbrev pub turn_at : Session → Desk → List ℕ → List ℕ → Record → TurnEnd
+abbrev pub turn_at : Session → Desk → List ℕ → List ℕ → Next → TurnEnd
 turn_at session d out s rec =
-    turns (record { next = next_of session rec; written = length (text_of session d s rec); over = ends rec })
+    turns (record { next = cond (ends rec) None (Some (next_of session rec)); written = length (text_of session d s rec) })
     (desk_after session d s rec) (over (text_of session d s rec) out)
 
 unfoldable pub turn_end : Session → Desk → List ℕ → List ℕ → TurnEnd
@@ -89,9 +82,9 @@ turn_end session d out s = turn_at session d out s (record_of session s)
 
 pub data Ran : Session → Desk → List ℕ → List ℕ → Type 0 where
   last : {session : Session} {d e : Desk} {s written : List ℕ} {r : Turned} (out : List ℕ) → turns r e written ≡ turn_end session d out (chunk_of s)
-      → r.over ≡ true → Ran session d s (take r.written written)
-  more : {session : Session} {d e : Desk} {s written text : List ℕ} {r : Turned} (out : List ℕ) → turns r e written ≡ turn_end session d out (chunk_of s)
-      → r.over ≡ false → Ran r.next e (rest_of s) text → Ran session d s (take r.written written ++ text)
+      → r.next ≡ None → Ran session d s (take r.written written)
+  more : {session next : Session} {d e : Desk} {s written text : List ℕ} {r : Turned} (out : List ℕ) → turns r e written ≡ turn_end session d out (chunk_of s)
+      → r.next ≡ Some next → Ran next e (rest_of s) text → Ran session d s (take r.written written ++ text)
 
 -- the lists that the program begins with
 abbrev pub empty : Desk

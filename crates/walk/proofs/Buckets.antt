@@ -2,25 +2,19 @@
 use mathlib.Core.Path.{◌≡◌, sym, ap, ◌∙◌}
 use mathlib.Core.Logic.{⊎_elim}
 use mathlib.Core.Bool.{Bool, true, false, not, ◌||◌, cond}
-use mathlib.Core.List.{[], ◌∷◌}
-use Prim.Native.Nat.{ℕ, ◌+◌, ◌-◌, ◌*◌, ◌≤◌, ◌<◌}
+use mathlib.Core.List.{List, [], ◌∷◌}
+use Prim.Native.Nat.{ℕ, ◌+◌, ◌-◌, ◌≤◌, ◌<◌}
 use native.Mathlib.Nat.{le_refl}
 use native.Mathlib.Numerals.{add-one}
 use native.Mathlib.Omega.{arith}
 use lib.Dec.{eqb, ltb, leb}
-use lib.ListN.{length}
+use lib.ListN.{length, get_or}
 use borrow.Author.Tests.{lt-ltb, le-ltb}
+use Rattle.std.proofs.lemmas.List.{get_or-map, length-map}
 use Rattle.theory.specs.Lists.{any, between}
 use Rattle.theory.proofs.Tests.{or_swap, or_right, lt-or-le, leb_is_ltb}
-use Rattle.theory.proofs.Lists.{any_append, any_one, any_none, any-cat_yes, between-suc, between_none}
-use Rattle.theory.proofs.Parts.{in_parts}
-use Rattle.scope.specs.Shape.{m}
-use Rattle.scope.specs.Tables.{Index, n, substring_of, start, id_at, bad_id, bad}
-use Rattle.walk.specs.Steps.{Lent}
-
--- table z's part of the ids ends within them
-pub in_ids : (x : Index) → Lent x → (z : ℕ) → z < m x.shape → z * n x + n x ≤ length x.ids
-in_ids x l z h = let i = l.ids in omega (arith, in_parts z (m x.shape) (n x) h)
+use Rattle.theory.proofs.Lists.{any_append, any_one, any_none, any-cat_yes, between-suc, between_none, length-tab, get_d_tab}
+use Rattle.scope.specs.Tables.{Index, n, substring_of, start, id_at, bad_id, bad, places, bucket}
 
 module _ (x : Index) (z v : ℕ) where
   -- the least id allowed at place p: one more than the id before it in the bucket, 0 at the first
@@ -92,3 +86,20 @@ module _ (x : Index) (z v : ℕ) where
         let from = h.from in
         let end : start x z (v + 1) ≡ p = let to = h.to in omega arith in
         rw (le-ltb (start x z (v + 1)) (start x z v) (omega arith), le-ltb (n x) (start x z (v + 1)) k, end) h.none
+
+-- ---- what bucket v lists, one after the other
+
+module _ (x : Index) (z v : ℕ) (ids : List ℕ) (are : ids ≡ bucket x z v) where
+  pub long : length ids ≡ start x z (v + 1) - start x z v
+  long = ap length are ∙ length-map (places x z v) (id_at x z) ∙ length-tab (λ k. start x z v + k) (start x z (v + 1) - start x z v)
+
+  module _ (k : ℕ) (h : k < length ids) where
+    pub place : start x z v + k < start x z (v + 1)
+    place = omega (arith, long)
+
+    pub id_is : get_or ids k 0 ≡ id_at x z (start x z v + k)
+    id_is =
+        let width = start x z (v + 1) - start x z v in
+        let l : k < width = omega (arith, long) in
+        let l' : k < length (places x z v) = omega (arith, length-tab (λ k. start x z v + k) width) in
+        rw are (get_or-map (id_at x z) (places x z v) k 0 0 l' ∙ ap (id_at x z) (get_d_tab (λ k. start x z v + k) 0 width k l))

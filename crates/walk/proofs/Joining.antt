@@ -42,42 +42,6 @@ module _ (star stand : ℕ → ℕ) (test test' : ℕ → Bool) (i x : ℕ) (is 
   pub stays_behind : r.other ≤ x → Best star stand test' r
   stays_behind l = stays (omega (arith, b.order.0)) (λ _. l)
 
-  pub stays_same : r.first ≤ x → star i ≡ r.star → Best star stand test' r
-  stays_same l e = stays l (λ ne. absurd (ne e))
-
-  -- between the two, with another star
-  pub second : r.first ≤ x → x < r.other → (star i ≡ r.star → ⊥) → Best star stand test' (record { first = r.first; star = r.star; other = x })
-  second l k ne =
-      record {
-        order = (l, omega (arith, b.order.1));
-        first = each i test test' same (λ j. r.first ≤ stand j) b.first (omega arith);
-        whose = ⊎_elim inl (λ w. inr (w.0, kept i test test' same w.0 w.1, w.2, w.3)) b.whose;
-        other = each i test test' same (λ j. (star j ≡ r.star → ⊥) → x ≤ stand j) (λ j h n. omega (arith, b.other j h n)) (λ _. omega arith);
-        another = inr (i, now i test test' same, sym is, ne);
-      }
-
-  -- before the first, with its star
-  pub ahead : x < r.first → star i ≡ r.star → Best star stand test' (record { first = x; star = star i; other = r.other })
-  ahead k e =
-      record {
-        order = (omega (arith, b.order.0), b.order.1);
-        first = each i test test' same (λ j. x ≤ stand j) (λ j h. omega (arith, b.first j h)) (omega arith);
-        whose = inr (i, now i test test' same, sym is, refl);
-        other = each i test test' same (λ j. (star j ≡ star i → ⊥) → r.other ≤ stand j) (λ j h n. b.other j h (λ p. n (p ∙ sym e))) (λ n. absurd (n refl));
-        another = ⊎_elim inl (λ w. inr (w.0, kept i test test' same w.0 w.1, w.2, λ p. w.3 (p ∙ e))) b.another;
-      }
-
-  -- before the first, with another star: the first becomes the runner-up
-  pub past : x < r.first → (star i ≡ r.star → ⊥) → Best star stand test' (record { first = x; star = star i; other = r.first })
-  past k ne =
-      record {
-        order = (omega arith, omega (arith, b.order.0, b.order.1));
-        first = each i test test' same (λ j. x ≤ stand j) (λ j h. omega (arith, b.first j h)) (omega arith);
-        whose = inr (i, now i test test' same, sym is, refl);
-        other = each i test test' same (λ j. (star j ≡ star i → ⊥) → r.first ≤ stand j) (λ j h _. b.first j h) (λ n. absurd (n refl));
-        another = ⊎_elim inl (λ w. inr (w.0, kept i test test' same w.0 w.1, w.2, λ p. ne (sym p ∙ w.3))) b.whose;
-      }
-
 -- where none passes
 pub best_none : (star stand : ℕ → ℕ) (test : ℕ → Bool) → ((i : ℕ) → test i ≡ false) → (r : Rivals) → r.first ≡ nobody → r.other ≡ nobody → Best star stand test r
 best_none star stand test none r f o =

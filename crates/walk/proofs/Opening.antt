@@ -10,6 +10,7 @@ use lib.Bits.{bit_and, bit_xor}
 use lib.Count.{ones}
 use lib.Dec.{eqb}
 use lib.ListN.{length, length-append, length-map}
+use Rattle.std.proofs.Common.{Ok, Err}
 use Rattle.theory.specs.Lists.{first_from, any, has, upto}
 use Rattle.theory.proofs.Lists.{any_append, any_one, any_none}
 use Rattle.theory.proofs.Counting.{only, upto-suc, upto_cong, upto-first, upto_next, count-le}
@@ -17,19 +18,24 @@ use Rattle.masks.specs.Masks.{has_ones}
 use Rattle.scope.specs.declared.Refusal.{Refusal}
 use Rattle.scope.specs.declared.Refusal.TheVariants.{BadBucket}
 use Rattle.scope.specs.Tables.{Index, n, bucket, bad}
-use Rattle.scope.specs.Walk.{Question, distance_of, star_of}
-use Rattle.scope.specs.Refusals.{Rows, met, unless, mark_words}
+use Rattle.scope.specs.Walk.{Question}
+use Rattle.scope.specs.Refusals.{Rows, met, unless}
 use Rattle.scope.proofs.Rows.{one_fits, unless-append, unless-none, met-any, all-clear, one_refuses}
 use Rattle.codes.specs.Marks.{is_marked}
 use Rattle.walk.specs.declared.Aim.{Aim}
-use Rattle.walk.specs.declared.Met.TheVariants.{Clear, Refused}
 use Rattle.walk.specs.declared.Walk.{Walk}
-use Rattle.walk.specs.Steps.{lists, around, met_in, Counted, Tests, Opening}
+use Rattle.walk.specs.Steps.{Met, lists, around, met_in, Seeing, Sees, Opening}
 
 -- ---- the first bad bucket
 
+abbrev pub Clear : Met
+Clear = Ok tt
+
+abbrev pub Refused : Refusal → Met
+Refused f = Err f
+
 pub not_both : {A : Type 0} {f : Refusal} → Refused f ≡ Clear → A
-not_both e = absurd (let y : ◌≡◌ {A = ℕ} 0 1 = cc in omega arith)
+not_both e = cc
 
 clear_apart : (f : Refusal) → Refused f ≡ Clear → ⊥
 clear_apart f e = not_both e
@@ -74,39 +80,34 @@ module _ (x : Index) where
 -- ---- buckets, one after the other
 
 module _ (ask : Question) (goal : Aim) (w : Walk) (marks : List ℕ) where
-  pub opening-none : (tally : List ℕ) → w.met ≡ Clear → Counted goal (star_of ask) (distance_of ask) (mark_words (n ask.index)) w.seen marks tally
-      → Opening ask goal [] w w marks marks tally
-  opening-none tally c h =
+  pub opening-none : (tally : List ℕ) → Seeing ask goal w.seen marks tally → Opening ask goal [] w w Clear marks marks tally
+  opening-none tally h =
       record {
-        met = c ∙ sym (met-none ask.index);
-        clear = λ _. record { at = refl; opened = sym (add-zero _); marked = λ i. rw any_none (sym (or-false (is_marked marks i))); counted = h };
+        met = sym (met-none ask.index);
+        clear = λ _. record { opened = sym (add-zero _); marked = λ i. rw any_none (sym (or-false (is_marked marks i))); counted = h };
       }
 
   -- one bucket: it is bad, or its entries are tested
-  pub opening-refused : (z v : ℕ) (r : Walk) (marks' tally' : List ℕ) → bad ask.index z v ≡ true → r.met ≡ Refused (BadBucket z v)
-      → Opening ask goal ((z, v) ∷ []) w r marks marks' tally'
-  opening-refused z v r marks' tally' b e = record { met = e ∙ sym (rw (met_one, b)); clear = λ c. not_both (sym e ∙ c) }
+  pub opening-refused : (z v : ℕ) (r : Walk) (marks' tally' : List ℕ) → bad ask.index z v ≡ true
+      → Opening ask goal ((z, v) ∷ []) w r (Refused (BadBucket z v)) marks marks' tally'
+  opening-refused z v r marks' tally' b = record { met = sym (rw (met_one, b)); clear = λ c. not_both c }
 
-  pub opening_one : (z v : ℕ) (r : Walk) (marks' tally' : List ℕ) → bad ask.index z v ≡ false → r.at ≡ w.at → r.opened.0 ≡ w.opened.0 + 1 → r.met ≡ Clear
-      → Tests goal (star_of ask) (distance_of ask) (mark_words (n ask.index)) (λ i. has i (bucket ask.index z v)) r.seen marks marks' tally'
-      → Opening ask goal ((z, v) ∷ []) w r marks marks' tally'
-  opening_one z v r marks' tally' b at opened c h =
-      record {
-        met = c ∙ sym (rw (met_one, b));
-        clear = λ _. record { at = at; opened = opened; marked = λ i. rw any_one (h.marked i); counted = h.counted };
-      }
+  pub opening_one : (z v : ℕ) (r : Walk) (marks' tally' : List ℕ) → bad ask.index z v ≡ false → r.opened.0 ≡ w.opened.0 + 1
+      → Sees ask goal (λ i. has i (bucket ask.index z v)) r.seen marks marks' tally'
+      → Opening ask goal ((z, v) ∷ []) w r Clear marks marks' tally'
+  opening_one z v r marks' tally' b opened h =
+      record { met = sym (rw (met_one, b)); clear = λ _. record { opened = opened; marked = λ i. rw any_one (h.marked i); counted = h.counted } }
 
   -- the buckets l, and then k
-  pub opening_more : (l k : List (ℕ × ℕ)) (r o : Walk) (marks' tally' marks'' tally'' : List ℕ) → Opening ask goal l w r marks marks' tally' → r.met ≡ Clear
-      → Opening ask goal k r o marks' marks'' tally'' → Opening ask goal (l ++ k) w o marks marks'' tally''
-  opening_more l k r o marks' tally' marks'' tally'' h c g =
+  pub opening_more : (l k : List (ℕ × ℕ)) (r o : Walk) (end : Met) (marks' tally' marks'' tally'' : List ℕ) → Opening ask goal l w r Clear marks marks' tally'
+      → Opening ask goal k r o end marks' marks'' tally'' → Opening ask goal (l ++ k) w o end marks marks'' tally''
+  opening_more l k r o end marks' tally' marks'' tally'' h g =
       record {
-        met = g.met ∙ sym (met_past ask.index l k (sym h.met ∙ c));
+        met = g.met ∙ sym (met_past ask.index l k (sym h.met));
         clear = λ e.
-            let a = h.clear c in
+            let a = h.clear refl in
             let b = g.clear e in
             record {
-              at = b.at ∙ a.at;
               opened = rw length-append (let i = a.opened in let j = b.opened in omega arith);
               marked = λ i. b.marked i ∙ rw (a.marked i, any_append) (or_assoc (is_marked marks i) (lists ask.index l i) (lists ask.index k i));
               counted = b.counted;
@@ -114,10 +115,9 @@ module _ (ask : Question) (goal : Aim) (w : Walk) (marks : List ℕ) where
       }
 
   -- what stands after a bad bucket is not opened
-  pub opening-bad : (l k : List (ℕ × ℕ)) (r : Walk) (marks' tally' : List ℕ) (f : Refusal) → Opening ask goal l w r marks marks' tally' → r.met ≡ Refused f
-      → Opening ask goal (l ++ k) w r marks marks' tally'
-  opening-bad l k r marks' tally' f h c =
-      record { met = c ∙ sym (met_stays ask.index l k f (sym h.met ∙ c)); clear = λ e. not_both (sym c ∙ e) }
+  pub opening-bad : (l k : List (ℕ × ℕ)) (r : Walk) (marks' tally' : List ℕ) (f : Refusal) → Opening ask goal l w r (Refused f) marks marks' tally'
+      → Opening ask goal (l ++ k) w r (Refused f) marks marks' tally'
+  opening-bad l k r marks' tally' f h = record { met = sym (met_stays ask.index l k f (sym h.met)); clear = λ c. not_both c }
 
 -- ---- the buckets of one step, by their exclusive-or
 
@@ -130,9 +130,9 @@ module _ (z r sub : ℕ) where
 
   -- a bad bucket among those below k is the first bad of them all
   pub around-bad : (ask : Question) (goal : Aim) (w o : Walk) (marks marks' tally' : List ℕ) (f : Refusal) (k m : ℕ) → k ≤ m
-      → Opening ask goal (around z r sub k) w o marks marks' tally' → o.met ≡ Refused f → Opening ask goal (around z r sub m) w o marks marks' tally'
-  around-bad ask goal w o marks marks' tally' f k m l h e =
-      le_ind (λ (j : ℕ). Opening ask goal (around z r sub j) w o marks marks' tally') h (λ j _ g. rw around-suc (opening-bad ask goal w marks _ _ o marks' tally' f g e)) m l
+      → Opening ask goal (around z r sub k) w o (Refused f) marks marks' tally' → Opening ask goal (around z r sub m) w o (Refused f) marks marks' tally'
+  around-bad ask goal w o marks marks' tally' f k m l h =
+      le_ind (λ (j : ℕ). Opening ask goal (around z r sub j) w o (Refused f) marks marks' tally') h (λ j _ g. rw around-suc (opening-bad ask goal w marks _ _ o marks' tally' f g)) m l
 
 -- with every bit of a bucket's number under the mask: none up to the first number with r ones there, and one more up to each next one
 module _ (z under r sub buckets : ℕ) (all : (e : ℕ) → e < buckets → bit_and e under ≡ e) where

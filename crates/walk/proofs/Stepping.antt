@@ -11,6 +11,7 @@ use native.Mathlib.Omega.{arith}
 use lib.Dec.{eqb, ltb, leb}
 use lib.ListN.{length, get_or, length-append}
 use borrow.Author.Tests.{le-ltb, lt-ltb, ltb-true, lt-leb, le-leb, leb-true, ne_eqb}
+use Rattle.std.proofs.Common.{Result, Ok, Err}
 use Rattle.theory.specs.Lists.{first_from, count, any}
 use Rattle.theory.proofs.Tests.{either, lt-or-le, same_test, both_ways}
 use Rattle.theory.proofs.Lists.{get_d_tab, length-tab, first-none, first_is, first_past, first_shift}
@@ -29,13 +30,12 @@ use Rattle.scope.proofs.Steps.{verdict_some}
 use Rattle.codes.specs.Marks.{is_marked}
 use Rattle.walk.specs.declared.Aim.{Aim}
 use Rattle.walk.specs.declared.Aim.TheVariants as aim
-use Rattle.walk.specs.declared.Met.TheVariants.{Clear, Refused}
 use Rattle.walk.specs.declared.Walk.{Walk}
 use Rattle.walk.specs.Rivals.{standing, Best}
 use Rattle.walk.specs.Limits.{Listing, Known}
-use Rattle.walk.specs.Steps.{met_in, Opening, Start, Going, Stepped, Fresh, Sensible, nearer, enough_after, steps_to, Left, Ended, Walked}
+use Rattle.walk.specs.Steps.{Met, met_in, Opening, Start, Going, Stepped, Fresh, Sensible, nearer, enough_after, steps_to, Left, Ended, Walked}
 use Rattle.walk.proofs.Joining.{best_none, best_cong, two_near}
-use Rattle.walk.proofs.Opening.{not_both, met-none, met_past, met_stays, none-bad}
+use Rattle.walk.proofs.Opening.{Clear, Refused, met-none, met_past, met_stays, none-bad}
 
 -- where nothing is marked, nothing is counted
 count_none : (marks : List ℕ) → ((i : ℕ) → is_marked marks i ≡ false) → (m : ℕ) (t : ℕ → Bool) → count (λ i. t i && is_marked marks i) m ≡ 0
@@ -63,35 +63,30 @@ module _ (star distance : ℕ → ℕ) (m words : ℕ) (marks tally : List ℕ) 
 -- ---- one step
 
 module _ (ask : Question) (goal : Aim) where
-  pub stepped : (w u r : Walk) (marks tally marks' tally' : List ℕ) → u.at ≡ w.at + 1 → u.opened.0 ≡ w.opened.0 → Going ask goal w marks tally
-      → Opening ask goal (opens ask w.at) u r marks marks' tally' → Stepped ask goal w r marks' tally'
-  stepped w u r marks tally marks' tally' a o h g =
-      let R = w.at in
-      let met : r.met ≡ met_in ask.index (opened ask (suc R)) =
-      g.met ∙ sym (ap (met_in ask.index) (opened-suc ask R) ∙ met_past ask.index (opened ask R) (opens ask R) h.clear) in
-      let at : r.met ≡ Clear → r.at ≡ suc R = λ c. (g.clear c).at ∙ a ∙ add-one R in
+  pub stepped : (N : ℕ) (w r : Walk) (end : Met) (marks tally marks' tally' : List ℕ) → Going ask goal N w marks tally
+      → Opening ask goal (opens ask N) w r end marks marks' tally' → Stepped ask goal N r end marks' tally'
+  stepped N w r end marks tally marks' tally' h g =
+      let met : end ≡ met_in ask.index (opened ask (suc N)) =
+      g.met ∙ sym (ap (met_in ask.index) (opened-suc ask N) ∙ met_past ask.index (opened ask N) (opens ask N) h.clear) in
       record {
-        met = rw (add-one R) met;
-        at = λ c. (g.clear c).at ∙ a;
+        met = rw (add-one N) met;
         going = λ c.
             let b = g.clear c in
             record {
-              met = c;
-              clear = rw (at c) (sym met ∙ c);
-              opened = rw (at c, opened-suc, length-append) (let i = b.opened in let k = h.opened in omega arith);
-              marked = λ i. b.marked i ∙ rw (h.marked i, at c) (sym (tested-suc ask R i));
+              clear = rw (add-one N) (sym met ∙ c);
+              opened = rw (add-one N, opened-suc, length-append) (let i = b.opened in let k = h.opened in omega arith);
+              marked = λ i. b.marked i ∙ rw (h.marked i, add-one N) (sym (tested-suc ask N i));
               counted = b.counted;
             };
       }
 
   -- nothing opened yet
-  pub going-none : (top : ℕ) (w : Walk) (marks tally : List ℕ) → Sensible goal top → Start goal w → Fresh (mark_words (n ask.index)) marks tally → Going ask goal w marks tally
+  pub going-none : (top : ℕ) (w : Walk) (marks tally : List ℕ) → Sensible goal top → Start goal w → Fresh (mark_words (n ask.index)) marks tally → Going ask goal 0 w marks tally
   going-none top w marks tally h s f =
       record {
-        met = s.met;
-        clear = rw (s.at, opened-none) (met-none ask.index);
-        opened = rw (s.at, opened-none) s.opened;
-        marked = λ i. f.none i ∙ rw s.at (sym (tested-none ask i));
+        clear = rw opened-none (met-none ask.index);
+        opened = rw opened-none s.opened;
+        marked = λ i. f.none i ∙ sym (tested-none ask i);
         counted = record {
           long = f.long;
           whole = ap length f.zeros ∙ length-tab _ 257;
@@ -102,10 +97,10 @@ module _ (ask : Question) (goal : Aim) where
 
   -- ---- what the walk knows, of the entries and by the definitions
 
-  module _ (w : Walk) (marks tally : List ℕ) (h : Going ask goal w marks tally) where
+  module _ (N : ℕ) (w : Walk) (marks tally : List ℕ) (h : Going ask goal N w marks tally) where
     theirs : (i : ℕ) → is_marked marks i ≡ true → i < n ask.index
     unfolding tested
-    theirs i e = lists-entry ask.index (opened ask w.at) i (none-bad ask.index (opened ask w.at) h.clear) (sym (h.marked i) ∙ e)
+    theirs i e = lists-entry ask.index (opened ask N) i (none-bad ask.index (opened ask N) h.clear) (sym (h.marked i) ∙ e)
 
     unmarked : (i : ℕ) → n ask.index ≤ i → is_marked marks i ≡ false
     unmarked i l = ⊎_elim (λ e. absurd (omega (arith, theirs i e))) (λ e. e) (either (is_marked marks i))
@@ -117,13 +112,13 @@ module _ (ask : Question) (goal : Aim) where
     entries : (t : ℕ → Bool) → count (λ i. t i && is_marked marks i) places ≡ count (λ i. t i && is_marked marks i) (n ask.index)
     entries t = ap length (upto_gap (λ i. t i && is_marked marks i) (n ask.index) places (omega arith) (λ i l _. rw (unmarked i l) (and-false (t i))))
 
-    tested_of : (t : ℕ → Bool) → count (λ i. t i && is_marked marks i) (n ask.index) ≡ count (λ i. t i && tested ask w.at i) (n ask.index)
+    tested_of : (t : ℕ → Bool) → count (λ i. t i && is_marked marks i) (n ask.index) ≡ count (λ i. t i && tested ask N i) (n ask.index)
     tested_of t = count_cong _ _ (n ask.index) (λ i _. ap (λ (b : Bool). t i && b) (h.marked i))
 
-    best : Best (star_of ask) (standing (distance_of ask)) (is_marked marks) w.seen.rivals → Best (star_of ask) (standing (distance_of ask)) (tested ask w.at) w.seen.rivals
-    best = best_cong _ _ (is_marked marks) (tested ask w.at) h.marked w.seen.rivals
+    best : Best (star_of ask) (standing (distance_of ask)) (is_marked marks) w.seen.rivals → Best (star_of ask) (standing (distance_of ask)) (tested ask N) w.seen.rivals
+    best = best_cong _ _ (is_marked marks) (tested ask N) h.marked w.seen.rivals
 
-    left : (x : Aim) → Known x (star_of ask) (distance_of ask) places (is_marked marks) tally w.seen.limit w.seen.near w.seen.rivals → Left x ask w.at w.seen marks tally
+    left : (x : Aim) → Known x (star_of ask) (distance_of ask) places (is_marked marks) tally w.seen.limit w.seen.near w.seen.rivals → Left x ask N w.seen marks tally
     left (aim.Nearest k r) (t, _) =
         record {
           inside = t.inside;
@@ -133,7 +128,7 @@ module _ (ask : Question) (goal : Aim) where
         }
     left aim.TwoStars (b, _) = best b
 
-    ended : Ended ask goal w.at w marks tally
+    ended : Ended ask goal N w marks tally
     ended =
         record {
           long = h.counted.long;
@@ -146,11 +141,10 @@ module _ (ask : Question) (goal : Aim) where
         }
 
     -- THE LIMIT TELLS WHEN TO STOP: what is near is enough once the limit is below the number of steps
-    enough_is : (x : Aim) (top : ℕ) → n ask.index ≤ 65536 → top ≤ 256 → Sensible x top → w.at ≤ top
+    enough_is : (x : Aim) (top : ℕ) → n ask.index ≤ 65536 → top ≤ 256 → Sensible x top → N ≤ top
         → Known x (star_of ask) (distance_of ask) places (is_marked marks) tally w.seen.limit w.seen.near w.seen.rivals
-        → enough_after ask x w.at ≡ ltb w.seen.limit w.at
+        → enough_after ask x N ≡ ltb w.seen.limit N
     enough_is (aim.Nearest k r) top few early sense l (t, tight) =
-        let N = w.at in
         let D = distance_of ask in
         let M = is_marked marks in
         let limit = w.seen.limit in
@@ -165,81 +159,75 @@ module _ (ask : Question) (goal : Aim) where
         (⊎_elim (λ (y : k ≤ w.seen.near). omega (arith, t.all, lower_mono places D M (limit + 1) N (omega arith)))
         (λ (y : limit ≡ r). absurd (let b = sense.1 in omega arith)) t.enough))
     enough_is aim.TwoStars top few early sense l (b, is) =
-        let N = w.at in
         let other = w.seen.rivals.other in
         sym (two_near (star_of ask) (distance_of ask) (tested ask N) (n ask.index) N few (omega arith) (λ i e. theirs i (h.marked i ∙ e)) w.seen.rivals (best b))
         ∙ same_test _ _ (λ e. lt-ltb w.seen.limit N (omega (arith, is, ltb-true other (65536 * N) e))) (λ e. lt-ltb other (65536 * N) (omega (arith, is, ltb-true w.seen.limit N e)))
 
-    pub reached_is : (top : ℕ) → n ask.index ≤ 65536 → top ≤ 256 → Sensible goal top → w.at ≤ top → enough_after ask goal w.at ≡ ltb w.seen.limit w.at
+    pub reached_is : (top : ℕ) → n ask.index ≤ 65536 → top ≤ 256 → Sensible goal top → N ≤ top → enough_after ask goal N ≡ ltb w.seen.limit N
     reached_is top few early sense l = enough_is goal top few early sense l h.counted.known
 
-    pub so_far : Walked ask goal w.at w marks tally
-    so_far = record { met = h.met ∙ sym h.clear; clear = λ _. ended }
+    pub so_far : Walked ask goal N (Ok w) marks tally
+    so_far = (h.clear, ended)
 
   -- so many steps, said in other words
-  pub walked_as : (M N : ℕ) → M ≡ N → (w : Walk) (marks tally : List ℕ) → Walked ask goal M w marks tally → Walked ask goal N w marks tally
-  walked_as M N e w marks tally h = subst (λ (N : ℕ). Walked ask goal N w marks tally) e h
+  pub walked_as : (M N : ℕ) → M ≡ N → (r : Result Walk Refusal) (marks tally : List ℕ) → Walked ask goal M r marks tally → Walked ask goal N r marks tally
+  walked_as M N e r marks tally h = subst (λ (N : ℕ). Walked ask goal N r marks tally) e h
 
   -- no step is taken
   pub walked_none : (w : Walk) (marks tally : List ℕ) → Start goal w → Fresh (mark_words (n ask.index)) marks tally → Left goal ask 0 w.seen marks tally
-      → Walked ask goal 0 w marks tally
-  walked_none w marks tally s f left =
-      record {
-        met = s.met ∙ sym (rw opened-none (met-none ask.index));
-        clear = λ _. record {
-          long = f.long;
-          whole = ap length f.zeros ∙ length-tab _ 257;
-          marked = λ i. f.none i ∙ sym (tested-none ask i);
-          theirs = λ i e. both_ways (sym e ∙ f.none i);
-          left = left;
-          opened = λ i. record { 0 = (s.opened ∙ sym (ap length (opened-none ask))) i };
-          tested = λ i. record { 0 = (s.tested ∙ sym (count_never (tested ask 0) (n ask.index) (λ j _. tested-none ask j))) i };
-        };
-      }
+      → Walked ask goal 0 (Ok w) marks tally
+  walked_none w marks tally s f left = (
+    rw opened-none (met-none ask.index),
+    record {
+      long = f.long;
+      whole = ap length f.zeros ∙ length-tab _ 257;
+      marked = λ i. f.none i ∙ sym (tested-none ask i);
+      theirs = λ i e. both_ways (sym e ∙ f.none i);
+      left = left;
+      opened = λ i. record { 0 = (s.opened ∙ sym (ap length (opened-none ask))) i };
+      tested = λ i. record { 0 = (s.tested ∙ sym (count_never (tested ask 0) (n ask.index) (λ j _. tested-none ask j))) i };
+    },
+  )
 
--- ---- a loop of steps that stops by a test p of their number: the walk so far, and that no fewer steps passed
+-- ---- a loop of steps that stops by a test p of their number: the walk after N, and that no fewer steps passed
 
-pub record Far (ask : Question) (goal : Aim) (p : ℕ → Bool) (top : ℕ) (w : Walk) (marks tally : List ℕ) : Type 0 where
-  pub upto : w.at ≤ top + 1
-  pub going : Going ask goal w marks tally
-  pub before : (N : ℕ) → N < w.at → p N ≡ false
+pub record Far (ask : Question) (goal : Aim) (p : ℕ → Bool) (top N : ℕ) (w : Walk) (marks tally : List ℕ) : Type 0 where
+  pub upto : N ≤ top + 1
+  pub going : Going ask goal N w marks tally
+  pub before : (M : ℕ) → M < N → p M ≡ false
 
-module _ (ask : Question) (goal : Aim) (p : ℕ → Bool) (top : ℕ) (w : Walk) (marks tally : List ℕ) where
-  pub far_none : Sensible goal top → Start goal w → Fresh (mark_words (n ask.index)) marks tally → Far ask goal p top w marks tally
-  far_none h s f = let e = s.at in record { upto = omega arith; going = going-none ask goal top w marks tally h s f; before = λ N l. absurd (omega arith) }
+module _ (ask : Question) (goal : Aim) (p : ℕ → Bool) (top : ℕ) where
+  pub far_none : (w : Walk) (marks tally : List ℕ) → Sensible goal top → Start goal w → Fresh (mark_words (n ask.index)) marks tally → Far ask goal p top 0 w marks tally
+  far_none w marks tally h s f = record { upto = omega arith; going = going-none ask goal top w marks tally h s f; before = λ M l. absurd (omega arith) }
 
-  module _ (h : Far ask goal p top w marks tally) where
+  module _ (N : ℕ) (w : Walk) (marks tally : List ℕ) (h : Far ask goal p top N w marks tally) where
     -- the walk so far is all of it
-    all : w.at ≡ steps_to p top → Walked ask goal (steps_to p top) w marks tally
-    all e = walked_as ask goal w.at (steps_to p top) e w marks tally (so_far ask goal w marks tally h.going)
+    all : N ≡ steps_to p top → Walked ask goal (steps_to p top) (Ok w) marks tally
+    all e = walked_as ask goal N (steps_to p top) e (Ok w) marks tally (so_far ask goal N w marks tally h.going)
 
-    pub walked_all : top < w.at → Walked ask goal (steps_to p top) w marks tally
+    pub walked_all : top < N → Walked ask goal (steps_to p top) (Ok w) marks tally
     walked_all l =
-        let e : w.at ≡ 0 + (top + 1) = let u = h.upto in omega arith in
-        all (e ∙ sym (first-none p (top + 1) 0 (λ N _ b. h.before N (omega arith))))
+        let e : N ≡ 0 + (top + 1) = let u = h.upto in omega arith in
+        all (e ∙ sym (first-none p (top + 1) 0 (λ M _ b. h.before M (omega arith))))
 
-    pub walked-enough : w.at ≤ top → p w.at ≡ true → Walked ask goal (steps_to p top) w marks tally
-    walked-enough l e = all (sym (first_is p (top + 1) 0 w.at (omega arith) (omega arith) (λ N _ b. h.before N b) e))
+    pub walked-enough : N ≤ top → p N ≡ true → Walked ask goal (steps_to p top) (Ok w) marks tally
+    walked-enough l e = all (sym (first_is p (top + 1) 0 N (omega arith) (omega arith) (λ M _ b. h.before M b) e))
 
-    module _ (l : w.at ≤ top) (not_yet : p w.at ≡ false) (r : Walk) (marks' tally' : List ℕ) (s : Stepped ask goal w r marks' tally') where
-      before-suc : (N : ℕ) → N < w.at + 1 → p N ≡ false
-      before-suc N b =
-          ⊎_elim (λ (e : N ≡ w.at). rw e not_yet) (λ (e : N < w.at). h.before N e) (eq-or-lt_of_le (let g : N ≤ w.at = omega arith in g))
+    module _ (l : N ≤ top) (not_yet : p N ≡ false) (r : Walk) (marks' tally' : List ℕ) where
+      before-suc : (M : ℕ) → M < N + 1 → p M ≡ false
+      before-suc M b =
+          ⊎_elim (λ (e : M ≡ N). rw e not_yet) (λ (e : M < N). h.before M e) (eq-or-lt_of_le (let g : M ≤ N = omega arith in g))
 
-      pub far-more : r.met ≡ Clear → Far ask goal p top r marks' tally'
-      far-more c = let e = s.at c in record { upto = omega arith; going = s.going c; before = λ N b. before-suc N (omega arith) }
+      pub far-more : Stepped ask goal N r Clear marks' tally' → Far ask goal p top (N + 1) r marks' tally'
+      far-more s = record { upto = omega arith; going = s.going refl; before = before-suc }
 
       -- a bad bucket stops the walk before its time, and is the first bad of all its steps
-      pub walked-bad : (f : Refusal) → r.met ≡ Refused f → Walked ask goal (steps_to p top) r marks' tally'
-      walked-bad f e =
-          record {
-            met = e ∙ sym (opened-bad (w.at + 1) _ (first_past p (top + 1) 0 (w.at + 1) (omega arith) (λ N _ b. before-suc N b)) (sym s.met ∙ e));
-            clear = λ c. not_both (sym e ∙ c);
-          }
+      pub walked-bad : (f : Refusal) → Stepped ask goal N r (Refused f) marks' tally' → Walked ask goal (steps_to p top) (Err f) marks' tally'
+      walked-bad f s = opened-bad (N + 1) _ (first_past p (top + 1) 0 (N + 1) (omega arith) (λ M _ b. before-suc M b)) (sym s.met)
         where
-          opened-bad : (R N : ℕ) → R ≤ N → met_in ask.index (opened ask R) ≡ Refused f → met_in ask.index (opened ask N) ≡ Refused f
-          opened-bad R N b m =
-              le_ind (λ (j : ℕ). met_in ask.index (opened ask j) ≡ Refused f) m (λ j _ g. rw opened-suc (met_stays ask.index (opened ask j) (opens ask j) f g)) N b
+          opened-bad : (R M : ℕ) → R ≤ M → met_in ask.index (opened ask R) ≡ Refused f → met_in ask.index (opened ask M) ≡ Refused f
+          opened-bad R M b m =
+              le_ind (λ (j : ℕ). met_in ask.index (opened ask j) ≡ Refused f) m (λ j _ g. rw opened-suc (met_stays ask.index (opened ask j) (opens ask j) f g)) M b
 
 -- ---- where the searches stop
 

@@ -29,11 +29,6 @@ use Rattle.walk.proofs.Joining.{stays_behind}
 
 -- ---- marks
 
--- entry i is marked already
-pub marked_before : (marks : List ℕ) (i : ℕ) → is_marked marks i ≡ true → (j : ℕ) → is_marked marks j ≡ (is_marked marks j || eqb j i)
-marked_before marks i e j =
-    ⊎_elim (λ (q : j ≡ i). rw (q, e)) (λ (q : j ≡ i → ⊥). rw (ne_eqb j i q) (sym (or-false (is_marked marks j)))) (eq-or_ne j i)
-
 -- entry i is marked now
 pub marked_now : (marks : List ℕ) (i : ℕ) → i < 64 * length marks → (j : ℕ) → is_marked (with_mark marks i) j ≡ (is_marked marks j || eqb j i)
 marked_now marks i h j =
@@ -192,19 +187,15 @@ module _ (goal : Aim) (star distance : ℕ → ℕ) (words : ℕ) (s : Seen) (ma
 -- ---- several entries, one after the other
 
 module _ (goal : Aim) (star distance : ℕ → ℕ) (words : ℕ) (marks : List ℕ) where
-  -- the words may be counted in the list
-  pub at_length : (s : Seen) (tally : List ℕ) → Counted goal star distance words s marks tally → Counted goal star distance (length marks) s marks tally
-  at_length s tally c = rw c.long c
-
   pub tests_none : (new : ℕ → Bool) (s : Seen) (tally : List ℕ) → ((i : ℕ) → new i ≡ false) → Counted goal star distance words s marks tally
       → Tests goal star distance words new s marks marks tally
   tests_none new s tally none c = record { marked = λ i. rw (none i) (sym (or-false (is_marked marks i))); counted = c }
 
   pub tests_more : (new also all : ℕ → Bool) (r o : Seen) (marks' tally' marks'' tally'' : List ℕ) → ((i : ℕ) → all i ≡ (new i || also i))
-      → Tests goal star distance words new r marks marks' tally' → Tests goal star distance (length marks') also o marks' marks'' tally''
+      → Tests goal star distance words new r marks marks' tally' → Tests goal star distance words also o marks' marks'' tally''
       → Tests goal star distance words all o marks marks'' tally''
   tests_more new also all r o marks' tally' marks'' tally'' both h g =
       record {
         marked = λ i. g.marked i ∙ rw (h.marked i, both i) (or_assoc (is_marked marks i) (new i) (also i));
-        counted = rw h.counted.long at g.counted;
+        counted = g.counted;
       }

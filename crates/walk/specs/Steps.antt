@@ -1,41 +1,20 @@
 -- The state of the walk, in the lists that it is lent: what each of its functions asks, and what it leaves. Assumes nothing.
-use Rattle.std.specs.Prelude.{◌≡◌, Bool, true, false, ◌&&◌, ◌||◌, List, map, ℕ, ◌+◌, ◌*◌, ◌≤◌, ◌<◌, eqb, ltb, leb, length}
+use Rattle.std.specs.Prelude.{◌≡◌, ⊤, Result, Ok, Err, Bool, true, false, ◌&&◌, ◌||◌, List, map, ℕ, ◌+◌, ◌*◌, ◌≤◌, ◌<◌, eqb, ltb, leb, length}
 use Rattle.std.specs.Int.Bits.{bit_xor}
 use Rattle.std.specs.Int.Count.{ones}
 use Rattle.theory.specs.Lists.{first, tab, upto, count, any, has}
-use Rattle.scope.specs.declared.Shape.{Shape}
-use Rattle.scope.specs.Shape.{listed, m, starts_before}
-use Rattle.scope.specs.Tables.{Index, index, n, bucket}
-use Rattle.scope.specs.Walk.{Question, question, distance_of, star_of, opened, tested, opened_count, tested_count}
+use Rattle.scope.specs.declared.Refusal.{Refusal}
+use Rattle.scope.specs.Tables.{Index, n, bucket}
+use Rattle.scope.specs.Walk.{Question, distance_of, star_of, opened, tested, opened_count, tested_count}
 use Rattle.scope.specs.Verdict.{two_stars}
-use Rattle.scope.specs.Refusals.{met, unless, mark_words}
+use Rattle.scope.specs.Refusals.{met, allowed, mark_words}
 use Rattle.codes.specs.Marks.{is_marked}
 use Rattle.walk.specs.declared.Aim.{Aim}
 use Rattle.walk.specs.declared.Aim.TheVariants as aim
-use Rattle.walk.specs.declared.Met.{Met}
-use Rattle.walk.specs.declared.Met.TheVariants.{Clear, Refused}
 use Rattle.walk.specs.declared.Seen.{Seen}
 use Rattle.walk.specs.declared.Walk.{Walk}
 use Rattle.walk.specs.Rivals.{standing, nobody, Best}
 use Rattle.walk.specs.Limits.{Listing, Known}
-
--- ---- what is lent
-
--- none of refusals 1 to 3 fits
-pub record Lent (x : Index) : Type 0 where
-  pub known : listed x.shape ≡ true
-  pub few : n x ≤ 65536
-  pub codes : length x.codes ≡ n x * x.shape.w
-  pub starts : starts_before x.shape (m x.shape) ≤ length x.starts
-  pub ids : m x.shape * n x ≤ length x.ids
-
--- the same with a query of w words
-pub record Asked (ask : Question) : Type 0 where
-  pub lent : Lent ask.index
-  pub query : length ask.query ≡ ask.index.shape.w
-
-abbrev pub asks : Shape → List ℕ → List ℕ → List ℕ → List ℕ → List ℕ → Question
-asks shape stars codes starts ids query = question (index shape stars codes starts ids) query
 
 -- ---- testing
 
@@ -51,7 +30,18 @@ pub record Tests (aim : Aim) (star distance : ℕ → ℕ) (words : ℕ) (new : 
   pub marked : (i : ℕ) → is_marked marks' i ≡ (is_marked marks i || new i)
   pub counted : Counted aim star distance words r marks' tally'
 
+-- so a walk has tested, and so it goes on, for a question
+abbrev pub Seeing : Question → Aim → Seen → (marks tally : List ℕ) → Type 0
+Seeing ask aim = Counted aim (star_of ask) (distance_of ask) (mark_words (n ask.index))
+
+abbrev pub Sees : Question → Aim → (new : ℕ → Bool) → Seen → (marks marks' tally' : List ℕ) → Type 0
+Sees ask aim = Tests aim (star_of ask) (distance_of ask) (mark_words (n ask.index))
+
 -- ---- opening
+
+-- whether a bad bucket was met, which refuses the search
+abbrev pub Met : Type 0
+Met = Result ⊤ Refusal
 
 -- some bucket of l lists entry i
 abbrev pub lists : Index → List (ℕ × ℕ) → ℕ → Bool
@@ -63,19 +53,18 @@ around z r sub k = map (λ e. (z, bit_xor sub e)) (upto (λ e. eqb (ones e) r) k
 
 -- the first bad bucket of l, if one is
 unfoldable pub met_in : Index → List (ℕ × ℕ) → Met
-met_in x l = unless (met x l) Refused Clear
+met_in x l = allowed (met x l)
 
 -- from w to r the buckets l were opened, none of them bad
 pub record Opens (ask : Question) (aim : Aim) (l : List (ℕ × ℕ)) (w r : Walk) (marks marks' tally' : List ℕ) : Type 0 where
-  pub at : r.at ≡ w.at
   pub opened : r.opened.0 ≡ w.opened.0 + length l
   pub marked : (i : ℕ) → is_marked marks' i ≡ (is_marked marks i || lists ask.index l i)
-  pub counted : Counted aim (star_of ask) (distance_of ask) (mark_words (n ask.index)) r.seen marks' tally'
+  pub counted : Seeing ask aim r.seen marks' tally'
 
 -- the buckets l were opened in order, up to the first bad one
-pub record Opening (ask : Question) (aim : Aim) (l : List (ℕ × ℕ)) (w r : Walk) (marks marks' tally' : List ℕ) : Type 0 where
-  pub met : r.met ≡ met_in ask.index l
-  pub clear : r.met ≡ Clear → Opens ask aim l w r marks marks' tally'
+pub record Opening (ask : Question) (aim : Aim) (l : List (ℕ × ℕ)) (w r : Walk) (end : Met) (marks marks' tally' : List ℕ) : Type 0 where
+  pub met : end ≡ met_in ask.index l
+  pub clear : end ≡ Ok tt → Opens ask aim l w r marks marks' tally'
 
 -- ---- steps
 
@@ -86,27 +75,23 @@ first_limit aim.TwoStars = 257
 
 -- no step is taken
 pub record Start (aim : Aim) (w : Walk) : Type 0 where
-  pub at : w.at ≡ 0
   pub opened : w.opened.0 ≡ 0
   pub tested : w.seen.tested.0 ≡ 0
   pub limit : w.seen.limit ≡ first_limit aim
   pub near : w.seen.near ≡ 0
   pub rivals : (w.seen.rivals.first ≡ nobody) × (w.seen.rivals.other ≡ nobody)
-  pub met : w.met ≡ Clear
 
--- w is the walk after its steps, which met no bad bucket
-pub record Going (ask : Question) (aim : Aim) (w : Walk) (marks tally : List ℕ) : Type 0 where
-  pub met : w.met ≡ Clear
-  pub clear : met_in ask.index (opened ask w.at) ≡ Clear
-  pub opened : w.opened.0 ≡ length (opened ask w.at)
-  pub marked : (i : ℕ) → is_marked marks i ≡ tested ask w.at i
-  pub counted : Counted aim (star_of ask) (distance_of ask) (mark_words (n ask.index)) w.seen marks tally
+-- w is the walk after N steps, which met no bad bucket
+pub record Going (ask : Question) (aim : Aim) (N : ℕ) (w : Walk) (marks tally : List ℕ) : Type 0 where
+  pub clear : met_in ask.index (opened ask N) ≡ Ok tt
+  pub opened : w.opened.0 ≡ length (opened ask N)
+  pub marked : (i : ℕ) → is_marked marks i ≡ tested ask N i
+  pub counted : Seeing ask aim w.seen marks tally
 
--- from w to r one step was taken
-pub record Stepped (ask : Question) (aim : Aim) (w r : Walk) (marks tally : List ℕ) : Type 0 where
-  pub met : r.met ≡ met_in ask.index (opened ask (w.at + 1))
-  pub at : r.met ≡ Clear → r.at ≡ w.at + 1
-  pub going : r.met ≡ Clear → Going ask aim r marks tally
+-- N steps were taken, and then one more, to r
+pub record Stepped (ask : Question) (aim : Aim) (N : ℕ) (r : Walk) (end : Met) (marks tally : List ℕ) : Type 0 where
+  pub met : end ≡ met_in ask.index (opened ask (N + 1))
+  pub going : end ≡ Ok tt → Going ask aim (N + 1) r marks tally
 
 -- nothing is marked or counted
 pub record Fresh (words : ℕ) (marks tally : List ℕ) : Type 0 where
@@ -151,6 +136,6 @@ pub record Ended (ask : Question) (aim : Aim) (N : ℕ) (r : Walk) (marks tally 
   pub tested : r.seen.tested ≡ tested_count ask N
 
 -- N steps, or as many as met the first bad bucket
-pub record Walked (ask : Question) (aim : Aim) (N : ℕ) (r : Walk) (marks tally : List ℕ) : Type 0 where
-  pub met : r.met ≡ met_in ask.index (opened ask N)
-  pub clear : r.met ≡ Clear → Ended ask aim N r marks tally
+abbrev pub Walked : Question → Aim → (N : ℕ) → Result Walk Refusal → (marks tally : List ℕ) → Type 0
+Walked ask aim N (Ok r) marks tally = (met_in ask.index (opened ask N) ≡ Ok tt) × Ended ask aim N r marks tally
+Walked ask aim N (Err f) marks tally = met_in ask.index (opened ask N) ≡ Err f

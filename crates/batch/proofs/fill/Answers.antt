@@ -1,50 +1,112 @@
-use mathlib.Core.Path.{◌≡◌, refl}
+use mathlib.Core.Path.{◌≡◌, sym, ap, ◌∙◌}
+use Rattle.std.specs.Prelude.{Ok}
+use Prim.Native.Nat.{ℕ, ◌+◌, ◌*◌, ◌/◌, ◌≤◌, ◌<◌}
 use native.Mathlib.Omega.{arith}
-use borrow.Author.Rules.{rules}
 use lib.ListN.{length}
-use Rattle.batch.proofs.Going.{start, before, inside, placed, past, next, finish}
+use Rattle.scope.specs.Tables.{Index, n}
+use Rattle.scope.specs.Refusals.{allowed}
+use Rattle.scope.specs.Batch.{Handed, batch, batch_rows}
+use Rattle.scope.proofs.Rows.{passed_on}
+use Rattle.scope.proofs.Shapes.{facts}
+use Rattle.batch.proofs.Refusing.{clear_fine}
+use Rattle.batch.proofs.Going.{refused-end, start, query_in, query_is, places, four, asks, next, finish}
 use Rattle.batch.proofs.fill.Goals as goal
+use Rattle.batch.proofs.fill.Goals.{Start}
 
-pub loop-step-init : goal.loop-step-init
-loop-step-init c = start _ _ _ _ c.requires refl
+abbrev H : Start → Handed
+H s = batch s.args.index.now s.args.queries.now s.args.k s.args.marks.now s.args.outcomes.now (length s.args.records.now)
 
-pub next-step-requires : goal.next-step-requires
-next-step-requires c = let i = c.loop-step.invariant in rw i.long (before _ _ _ _ _ _ _ _ _ _ i)
+-- a field is the model's
+abbrev n_of : Index → ℕ
+n_of x = n x
 
-pub offset_bounds-records-i : goal.offset_bounds-records-i
-offset_bounds-records-i c =
-    let i = c.loop-step.invariant in
-    let in_records = placed i (rw i.long at c.next-step.ensures) c.if-step-eq0.false in
+abbrev w_of : Index → ℕ
+w_of x = x.shape.w
+
+-- query i's records and its four numbers are there
+module _ (s : Start) (fine : Ok tt ≡ allowed (batch_rows (H s))) {x : Index} (same : x ≡ s.args.index.now) {i : ℕ} (b : i < length s.args.queries.now / x.shape.w) where
+  part_in : i * s.args.k + s.args.k ≤ length s.args.records.now
+  part_in = places (H s) (clear_fine (H s) fine) i (query_in (H s) _ _ (ap w_of same) b)
+
+  four_in : 4 * i + 4 ≤ length s.args.outcomes.now
+  four_in = four (H s) (clear_fine (H s) fine) i (query_in (H s) _ _ (ap w_of same) b)
+
+pub returns-in_err-refused : goal.returns-in_err-refused
+returns-in_err-refused c =
+    rw (passed_on c.from_residual.ensures.1) (c.in_err-refused.ensures, refused-end _ _ _ _ _ c.in_err-refused.ensures)
+
+pub clear-requires : goal.clear-requires
+clear-requires c =
+    let h = clear_fine _ c.in_ok-refused.ensures in
+    let marked = h.marked in
+    let same = ap n_of c.index.view_is in
+    let words = c.div_ceil.ensures in
     omega arith
 
-pub bounds-records-i : goal.bounds-records-i
-bounds-records-i c = let i = c.loop-step.invariant in placed i (rw i.long at c.next-step.ensures) c.if-step-eq0.false
+pub nonzero_div-i-end : goal.nonzero_div-i-end
+nonzero_div-i-end c =
+    let h = clear_fine _ c.in_ok-refused.ensures in
+    rw (ap w_of c.index.view_is) (facts _ h.fits.shape).some_words
 
-pub overflow_add-i : goal.overflow_add-i
-overflow_add-i c =
-    let i = c.loop-step.invariant in
-    let in_records = placed i (rw i.long at c.next-step.ensures) c.if-step-eq0.false in
+pub loop-i-init : goal.loop-i-init
+loop-i-init c =
+    let s : Start = search in
+    let same = ap n_of c.index.view_is in
+    let words = c.div_ceil.ensures in
+    start (H s) _ _ _ _ c.div_ceil.result (omega arith) c.clear.ensures
+
+pub overflow_mul-place : goal.overflow_mul-place
+overflow_mul-place c =
+    let s : Start = search in
+    let p = part_in s c.in_ok-refused.ensures c.index.view_is c.loop-i-test.true in
     omega arith
 
-pub loop-step-smaller : goal.loop-step-smaller
-loop-step-smaller c =
-    let i = c.loop-step.invariant in
-    let in_records = placed i (rw i.long at c.next-step.ensures) c.if-step-eq0.false in
-    let long = i.long in
+pub slice_bounds-answer-end-in-loop-i : goal.slice_bounds-answer-end-in-loop-i
+slice_bounds-answer-end-in-loop-i c =
+    let s : Start = search in
+    let p = four_in s c.in_ok-refused.ensures c.index.view_is c.loop-i-test.true in
     omega arith
 
-pub loop-step-preserved : goal.loop-step-preserved
-loop-step-preserved c =
-    let i = c.loop-step.invariant in
-    let marks : length c.next-step.new.marks ≡ length c.loop-step.marks = search rules in
-    let outcomes : length c.next-step.new.outcomes ≡ length c.loop-step.outcomes = search rules in
-    let entries : length c.next-step.new.entries ≡ length c.loop-step.entries = search rules in
-    let distances : length c.next-step.new.distances ≡ length c.loop-step.distances = search rules in
-    let turn = rw i.long at c.next-step.ensures in
-    next i turn marks outcomes entries distances (inside i turn c.if-step-eq0.false)
+pub overflow_add-place : goal.overflow_add-place
+overflow_add-place c =
+    let s : Start = search in
+    let p = part_in s c.in_ok-refused.ensures c.index.view_is c.loop-i-test.true in
+    omega arith
+
+pub offset_bounds-records-place : goal.offset_bounds-records-place
+offset_bounds-records-place c =
+    let s : Start = search in
+    let p = part_in s c.in_ok-refused.ensures c.index.view_is c.loop-i-test.true in
+    omega arith
+
+pub slice_bounds-answer-end-in-loop-i-2 : goal.slice_bounds-answer-end-in-loop-i-2
+slice_bounds-answer-end-in-loop-i-2 c =
+    let s : Start = search in
+    let p = part_in s c.in_ok-refused.ensures c.index.view_is c.loop-i-test.true in
+    omega arith
+
+pub answer-requires : goal.answer-requires
+answer-requires c =
+    let s : Start = search in
+    let h = clear_fine (H s) c.in_ok-refused.ensures in
+    let w = ap w_of c.index.view_is in
+    let near = c.requires.near in
+    let far = c.requires.far in
+    asks (H s) h c.loop-i.outcomes (query_in (H s) _ _ w c.loop-i-test.true) _ (query_is (H s) _ _ w) (c.loop-i.auto.marks ∙ c.clear.auto.list) c.loop-i.auto.outcomes
+    (record { near = omega arith; far = omega arith })
+
+pub loop-i-preserved : goal.loop-i-preserved
+loop-i-preserved c =
+    let s : Start = search in
+    let h = clear_fine (H s) c.in_ok-refused.ensures in
+    let w = ap w_of c.index.view_is in
+    let a = c.answer.ensures in
+    next (H s) h c.loop-i.outcomes (query_in (H s) _ _ w c.loop-i-test.true) _ (query_is (H s) _ _ w) c.loop-i.invariant (sym c.loop-i.auto.records) a.marks_after a.told_after a.entries_after
+    a.distances_after a.records_after
 
 pub returns : goal.returns
 returns c =
-    let i = c.loop-step.invariant in
-    let turn = rw i.long at c.next-step.ensures in
-    finish i turn (past i turn c.if-step-eq0.true)
+    let s : Start = search in
+    let h = clear_fine (H s) c.in_ok-refused.ensures in
+    let all : c.loop-i.i ≡ length c.args.queries.now / c.index.inside.shape.w = omega (arith, c.loop-i-test.false, c.loop-i.auto.i-end) in
+    (c.in_ok-refused.ensures, finish (H s) h (rw (all, ap w_of c.index.view_is) at c.loop-i.invariant))

@@ -1,31 +1,21 @@
-use mathlib.Core.Path.{◌≡◌, refl, ap, ◌∙◌}
-use Prim.Native.Nat.{◌+◌}
+-- `blackboard::open_after` meets its contract. Assumes nothing.
 use native.Mathlib.Omega.{arith}
-use Rattle.theory.specs.Lists.{sum}
+use Rattle.std.proofs.Common.{rules}
 use Rattle.scope.specs.Shape.{m}
 use Rattle.scope.specs.Walk.{open_in, open_after}
 use Rattle.scope.proofs.Shapes.{facts}
-use Rattle.blackboard.proofs.Steps.{more, small}
+use Rattle.blackboard.proofs.Sums.{summed, sum_fits}
+use Rattle.blackboard.proofs.Steps.{small}
 use Rattle.blackboard.proofs.open_after.Goals as goal
 
-pub loop-z-init : goal.loop-z-init
-unfolding sum
-loop-z-init c = (omega arith, refl)
-
-pub overflow_add-buckets : goal.overflow_add-buckets
-overflow_add-buckets c =
-    let f = facts c.args.shape c.requires.0 in
-    omega (
-      arith,
-      more c.args.shape c.args.step c.requires.0 _ _ _ c.loop-z.invariant.1 c.open_in-buckets.ensures,
-      small c.args.shape c.args.step c.requires.0 (c.loop-z.z + 1) (omega (arith, f.few_tables)),
-    )
-
-pub loop-z-preserved : goal.loop-z-preserved
-loop-z-preserved c = (omega arith, more c.args.shape c.args.step c.requires.0 _ _ _ c.loop-z.invariant.1 c.open_in-buckets.ensures)
+pub sum-requires-clause-fits : goal.sum-requires-clause-fits
+sum-requires-clause-fits c =
+    let sh = c.shape.inside.shape in
+    sum_fits _ (open_in sh c.args.step) (m sh) c.map.ensures.source c.map.ensures.closure (λ x r q k. search rules) _
+    (omega (arith, small sh c.args.step c.shape.invariant (m sh) (facts sh c.shape.invariant).few_tables))
 
 pub returns : goal.returns
 unfolding open_after
 returns c =
-    let done : c.loop-z.z ≡ m c.args.shape = omega arith in
-    c.loop-z.invariant.1 ∙ ap (sum (open_in c.args.shape c.args.step)) done
+    let sh = c.shape.inside.shape in
+    rw (← c.shape.view_is) (summed _ (open_in sh c.args.step) (m sh) c.map.ensures.source c.map.ensures.closure (λ x r q k. search rules) _ c.sum.ensures.ran)

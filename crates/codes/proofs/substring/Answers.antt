@@ -23,16 +23,6 @@ crossed from len x over small h =
     let kept = shl_exact high low 64 (mod-lt (get_or x (from / 64 + 1) 0) (pow_pos high)) (omega arith) in
     rw (one_shl high (omega arith), kept) (sym (substring_cross from low high x (omega arith) (omega arith) h) ∙ ap (λ (n : ℕ). substring from n x) both)
 
-pub nonzero_rem-result : goal.nonzero_rem-result
-nonzero_rem-result c =
-    let n = c.args.len in
-    omega (arith, one_shl n (omega arith), pow_pos n)
-
-pub nonzero_rem-high : goal.nonzero_rem-high
-nonzero_rem-high c =
-    let n = c.args.len - (64 - c.args.from % 64) in
-    omega (arith, one_shl n (omega arith), pow_pos n)
-
 pub returns-then-o-len-le64 : goal.returns-then-o-len-le64
 returns-then-o-len-le64 c =
     let a = c.args in

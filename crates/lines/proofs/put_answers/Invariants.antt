@@ -1,10 +1,7 @@
--- `lines::put_answers` meets its contract. The invariant: the lines of the first i answers are written. Assumes nothing.
-use Prim.Native.Nat.{◌-◌}
+-- `lines::put_answers` meets its contract. The invariant: the lines of the answers passed are written. Assumes nothing.
+use lib.ListN.{length}
 use Rattle.lines.proofs.Writing.{Listing}
 use Rattle.lines.proofs.put_answers.Given as goal
 
-abbrev pub invariant-loop-i : goal.invariant-loop-i
-invariant-loop-i l = Listing l.initial.out l.at l.stars l.entries l.distances l.n l.out l.p l.i
-
-abbrev pub decreases-loop-i : goal.decreases-loop-i
-decreases-loop-i l = l.n - l.i
+abbrev pub invariant-loop-entry : goal.invariant-loop-entry
+invariant-loop-entry l = Listing l.initial.out l.at l.stars l.entries l.distances l.n l.out l.place (length l.yielded)

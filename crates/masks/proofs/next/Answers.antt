@@ -5,7 +5,6 @@ use native.Mathlib.Nat.{mod-eq_of_lt, mod-le}
 use native.Mathlib.Omega.{arith}
 use lib.Bits.{bit_and}
 use lib.Count.{ones}
-use lib.Pow.{shr_le}
 use Rattle.masks.specs.Masks.{Lowest}
 use Rattle.masks.proofs.Firsts.{Steps, steps}
 use Rattle.masks.proofs.next.Goals as goal
@@ -20,9 +19,6 @@ shifted c = let s = by c in let few = s.few in ap (λ (n : ℕ). n % 18446744073
 
 pub overflow_shr-up : goal.overflow_shr-up
 overflow_shr-up c = omega (arith, (by c).low)
-
-pub overflow_add-up : goal.overflow_add-up
-overflow_add-up c = record { fits = omega (arith, shr_le c.args.e c.place-p.result) }
 
 pub overflow_shl-up : goal.overflow_shl-up
 overflow_shl-up c = omega (arith, (by c).low)

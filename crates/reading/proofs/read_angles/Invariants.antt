@@ -1,12 +1,8 @@
 -- `reading::read_angles` meets its contract. The invariant: the first i angles are written. Assumes nothing.
-use Prim.Native.Nat.{◌-◌, ◌≤◌}
 use mathlib.Core.Path.{◌≡◌}
 use Rattle.reading.specs.Offsets.{angles_at}
 use Rattle.theory.specs.Lists.{over}
 use Rattle.reading.proofs.read_angles.Given as goal
 
 abbrev pub invariant-loop-i : goal.invariant-loop-i
-invariant-loop-i l = (l.i ≤ l.n) × (l.list ≡ over (angles_at l.s l.at l.i) l.initial.list)
-
-abbrev pub decreases-loop-i : goal.decreases-loop-i
-decreases-loop-i l = l.n - l.i
+invariant-loop-i l = l.list ≡ over (angles_at l.s l.at l.i) l.initial.list

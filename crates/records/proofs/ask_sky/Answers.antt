@@ -15,5 +15,5 @@ returns c =
     let p = angles_front c.args.s.now 5 c.args.n _ _ c.read_offsets.ensures.across_after in
     let q = angles_front c.args.s.now 13 c.args.n _ _ c.read_offsets.ensures.up_after in
     let e = c.code-sky.ensures ∙ ap₂ (λ (x y : List Float). sky_answer c.args.unit x y) p q in
-    let number = c.number_of.ensures in
+    let number = c.number.ensures in
     record { wrote = wrote_is (λ i. sky_line (number i) (e i)) c.put_sky.ensures.wrote; short = c.put_sky.ensures.short }

@@ -1,66 +1,57 @@
 -- `search::list_within` meets its contract. Assumes nothing.
 use mathlib.Core.Path.{◌≡◌, refl, sym, ap, ◌∙◌}
 use mathlib.Core.List.{[]}
-use Prim.Native.Nat.{ℕ, ◌+◌, ◌≤◌}
+use Prim.Native.Nat.{ℕ, min}
 use native.Mathlib.Omega.{arith}
 use lib.ListN.{length}
-use lib.Seq.{length-take-le}
-use Rattle.theory.specs.Lists.{over, padded}
-use Rattle.theory.proofs.Lists.{over-padded}
-use Rattle.scope.proofs.Ends.{end_is}
-use Rattle.search.proofs.Listing
 use borrow.Author.Rules.{rules}
+use Rattle.theory.specs.Lists.{cat, over, padded}
+use Rattle.scope.specs.Tables.{n}
+use Rattle.scope.proofs.Ends.{end_is}
+use Rattle.scope.proofs.Rows.{passed_on}
+use Rattle.walk.proofs.Asked.{of_asked}
+use Rattle.search.proofs.Listing
 use Rattle.search.proofs.list_within.Goals as goal
 
-pub within-w-requires : goal.within-w-requires
-within-w-requires c =
-    record { asked = c.requires.asked; r_bound = c.requires.r_bound; fresh = Listing.fresh _ c.args.marks.now _ _ c.requires.marks_len.0 (c.clear.ensures ∙ ap (λ (k : ℕ). over (padded k []) c.args.marks.now) c.requires.marks_len.0) c.requires.marks_len.1 }
+pub within-walked-requires-clause-fresh : goal.within-walked-requires-clause-fresh
+unfolding cat
+within-walked-requires-clause-fresh c =
+    Listing.fresh _ c.args.marks.now _ _ c.requires.marks_len (c.clear.ensures ∙ ap (λ (k : ℕ). over (padded k []) c.args.marks.now) c.requires.marks_len) refl
 
-pub returns-in-Refused : goal.returns-in-Refused
-returns-in-Refused c =
-    let long : length c.within-w.new.marks ≡ length c.args.marks.now = search rules in
-    let wiped = c.wipe.ensures in
-    end_is refl (wiped.marks_after ∙ ap (λ (k : ℕ). padded k []) (long ∙ c.requires.marks_len.0)) wiped.entries_after wiped.distances_after
-    ∙ sym (Listing.within-refused _ c.args.r c.requires.asked.lent.few _ _ _ c.within-w.ensures c.args.marks.now _ _ c.requires.marks_len.0 _ _ c.smaller-shorter.ensures c.smaller-places.ensures _ c.in-Refused.is)
+-- the places are as many as entries, or as both lists hold
+places : (k m room P : ℕ) → k ≡ m → P ≡ min room k → P ≡ min m room
+places k m room P e p = omega arith
 
-pub overflow_add-end : goal.overflow_add-end
-overflow_add-end c = let i = (c.within-w.ensures.clear c.in_default.is).left.inside in omega arith
-
-pub slice_bounds-rank-end : goal.slice_bounds-rank-end
-slice_bounds-rank-end c =
-    let few = c.requires.asked.lent.few in
-    let limit_is : c.within-w.result.seen.limit ≡ c.args.r = Listing.limit_stays _ _ _ _ _ _ _ (c.within-w.ensures.clear c.in_default.is) (omega arith) in
-    let inside : c.args.r + 1 ≤ length c.within-w.new.tally = omega (arith, Listing.in_tally _ _ _ _ _ _ _ (c.within-w.ensures.clear c.in_default.is)) in
-    omega arith
-
-pub slice_bounds-rank-end-2 : goal.slice_bounds-rank-end-2
-slice_bounds-rank-end-2 c =
-    let few = c.requires.asked.lent.few in
-    let limit_is : c.within-w.result.seen.limit ≡ c.args.r = Listing.limit_stays _ _ _ _ _ _ _ (c.within-w.ensures.clear c.in_default.is) (omega arith) in
-    let inside : c.args.r + 1 ≤ length c.within-w.new.tally = omega (arith, Listing.in_tally _ _ _ _ _ _ _ (c.within-w.ensures.clear c.in_default.is)) in
-    sym (length-take-le (c.args.r + 1) _ inside)
-
-pub rank-requires : goal.rank-requires
-rank-requires c =
-    let few = c.requires.asked.lent.few in
-    let limit_is : c.within-w.result.seen.limit ≡ c.args.r = Listing.limit_stays _ _ _ _ _ _ _ (c.within-w.ensures.clear c.in_default.is) (omega arith) in
-    let shorter = c.smaller-shorter.ensures in
-    let places = c.smaller-places.ensures in
-    Listing.rankable _ _ _ _ _ _ _ (c.within-w.ensures.clear c.in_default.is) c.requires.asked _ _ _ _ (sym limit_is) (omega arith) (omega arith)
-
-pub overflow_cast-answers : goal.overflow_cast-answers
-overflow_cast-answers c =
-    let few = c.requires.asked.lent.few in
-    omega (arith, Listing.near_few _ _ _ _ _ _ _ (c.within-w.ensures.clear c.in_default.is))
+pub returns-in_err-w : goal.returns-in_err-w
+returns-in_err-w c =
+    let a = rw c.ask.view_is at c.ask.invariant in
+    let long : length c.within-walked.new.marks ≡ length c.args.marks.now = search rules in
+    let e = sym c.list.ensures.same ∙ c.in_err-w.was in
+    let met = rw e at c.within-walked.ensures in
+    let l = rw e at c.list.ensures in
+    let P = places _ _ _ _ (of_asked n c.ask.view_is c.entries.ensures.value) c.min-places.ensures in
+    rw (passed_on c.from_residual.ensures.1)
+    (end_is refl (l.marks_after ∙ ap (λ (k : ℕ). padded k []) (long ∙ c.requires.marks_len)) l.entries_after l.distances_after
+    ∙ sym (Listing.within-refused _ c.args.r a.lent.few c.args.marks.now _ _ c.requires.marks_len _ _ c.min-shorter.ensures P _ met))
 
 pub returns-then-shorter-answers : goal.returns-then-shorter-answers
 returns-then-shorter-answers c =
-    let ended = c.within-w.ensures.clear c.in_default.is in
-    end_is refl (c.rank.ensures.cleared ∙ over-padded _ [] _ ended.long) c.rank.ensures.listed c.rank.ensures.measured
-    ∙ sym (Listing.within_many _ c.args.r c.requires.asked.lent.few _ _ _ c.within-w.ensures c.args.marks.now _ _ c.requires.marks_len.0 _ _ c.smaller-shorter.ensures c.smaller-places.ensures c.in_default.is c.if-shorter-answers.true)
+    let a = rw c.ask.view_is at c.ask.invariant in
+    let long : length c.within-walked.new.marks ≡ length c.args.marks.now = search rules in
+    let e = sym c.list.ensures.same ∙ c.in_ok-w.was in
+    let ended = rw e at c.within-walked.ensures in
+    let l = rw e at c.list.ensures in
+    let P = places _ _ _ _ (of_asked n c.ask.view_is c.entries.ensures.value) c.min-places.ensures in
+    end_is refl (l.marks_after ∙ ap (λ (k : ℕ). padded k []) (long ∙ c.requires.marks_len)) l.entries_after l.distances_after
+    ∙ sym (Listing.within_many _ c.args.r a.lent.few c.args.marks.now _ _ c.requires.marks_len _ _ c.min-shorter.ensures P _ _ _ ended c.if-shorter-answers.true)
 
 pub returns : goal.returns
 returns c =
-    let ended = c.within-w.ensures.clear c.in_default.is in
-    end_is refl (c.rank.ensures.cleared ∙ over-padded _ [] _ ended.long) c.rank.ensures.listed c.rank.ensures.measured
-    ∙ sym (Listing.within-listed _ c.args.r c.requires.asked.lent.few _ _ _ c.within-w.ensures c.args.marks.now _ _ c.requires.marks_len.0 _ _ c.smaller-shorter.ensures c.smaller-places.ensures c.in_default.is c.if-shorter-answers.false)
+    let a = rw c.ask.view_is at c.ask.invariant in
+    let long : length c.within-walked.new.marks ≡ length c.args.marks.now = search rules in
+    let e = sym c.list.ensures.same ∙ c.in_ok-w.was in
+    let ended = rw e at c.within-walked.ensures in
+    let l = rw e at c.list.ensures in
+    let P = places _ _ _ _ (of_asked n c.ask.view_is c.entries.ensures.value) c.min-places.ensures in
+    end_is refl (l.marks_after ∙ ap (λ (k : ℕ). padded k []) (long ∙ c.requires.marks_len)) l.entries_after l.distances_after
+    ∙ sym (Listing.within-listed _ c.args.r a.lent.few c.args.marks.now _ _ c.requires.marks_len _ _ c.min-shorter.ensures P _ _ _ ended c.if-shorter-answers.false)

@@ -4,6 +4,5 @@ use mathlib.Core.List.{[]}
 use Rattle.theory.proofs.Lists.{over-padded}
 use Rattle.search.proofs.wipe.Goals as goal
 
-pub returns : goal.returns
-returns c =
-    record { marks_after = c.clear.ensures ∙ over-padded _ [] c.args.marks.now refl; entries_after = c.wipe.ensures; distances_after = c.wipe-2.ensures }
+pub returns-clause-marks_after : goal.returns-clause-marks_after
+returns-clause-marks_after c = c.clear.ensures ∙ over-padded _ [] c.args.marks.now refl

@@ -1,51 +1,58 @@
 -- `search::within` meets its contract. Assumes nothing.
-use mathlib.Core.Path.{◌≡◌, refl, sym, ◌∙◌}
+use mathlib.Core.Path.{sym, ◌∙◌}
 use mathlib.Core.List.{[], ◌∷◌}
 use lib.Seq.{length-take-le}
 use borrow.Author.Tests.{ltb-false}
-use Rattle.theory.specs.Lists.{cat}
 use Rattle.theory.proofs.Lists.{any_one}
-use Rattle.scope.specs.Walk.{Question}
-use Rattle.scope.specs.Refusals.{unless, one_to_five}
-use Rattle.shapes.specs.declared.Early.{Early}
-use Rattle.shapes.specs.declared.Early.TheVariants.{Fine, Refused}
-use Rattle.walk.specs.Steps.{asks}
+use Rattle.scope.specs.Tables.{n}
+use Rattle.scope.specs.Walk.{question}
+use Rattle.scope.proofs.Rows.{passed_on}
+use Rattle.walk.proofs.Asked.{of_asked}
 use Rattle.search.proofs.Refusing
 use Rattle.search.proofs.Answering
 use Rattle.search.proofs.within.Goals as goal
-use Rattle.search.proofs.within.Goals.{Start}
 
-abbrev Ask : Start → Question
-Ask c = asks c.args.shape c.args.stars.now c.args.codes.now c.args.starts.now c.args.ids.now c.args.query.now
-
--- none of refusals 1 to 5 fits
-fit : (c : Start) (e : Early) → e ≡ unless (one_to_five (Ask c).index c.args.query.now (c.args.r ∷ []) c.args.marks.now) Refused Fine → e ≡ Fine
-    → Refusing.Fit (Ask c) (c.args.r ∷ []) c.args.marks.now
-fit c e h f = Refusing.fit (Ask c) (c.args.r ∷ []) c.args.marks.now (sym h ∙ f)
-
-pub returns-in-Refused : goal.returns-in-Refused
-returns-in-Refused c =
-    let s : Start = search in
-    Answering.within_early (Ask s) _ _ _ _ _ (sym c.refused-early.ensures ∙ c.in-Refused.is)
+pub returns-in_err-ask : goal.returns-in_err-ask
+returns-in_err-ask c =
+    rw (passed_on c.from_residual.ensures.1) (Answering.within_early (question c.args.index.now c.args.query.now) _ _ _ c.args.r _ (Refusing.not_accepted _ _ _ _ c.in_err-ask.ensures))
 
 pub slice_bounds-list_within-end : goal.slice_bounds-list_within-end
 slice_bounds-list_within-end c =
-    let s : Start = search in
-    (fit s _ c.refused-early.ensures c.in_default.is).room
+    let x = c.args.index.now in
+    let a = Refusing.accepted x c.args.query.now (c.args.r ∷ []) c.args.marks.now c.in_ok-ask.ensures in
+    let fit = Refusing.fit (question x c.args.query.now) (c.args.r ∷ []) c.args.marks.now a.0 in
+    let many = rw a.1 at (of_asked n c.ask.view_is c.entries.ensures.value) in
+    let words = Refusing.words_are _ _ _ many c.div_ceil-words.ensures in
+    let room = rw (← words) at fit.room in
+    room
 
 pub slice_bounds-list_within-end-2 : goal.slice_bounds-list_within-end-2
 slice_bounds-list_within-end-2 c =
-    let s : Start = search in
-    sym (length-take-le _ _ (fit s _ c.refused-early.ensures c.in_default.is).room)
+    let x = c.args.index.now in
+    let a = Refusing.accepted x c.args.query.now (c.args.r ∷ []) c.args.marks.now c.in_ok-ask.ensures in
+    let fit = Refusing.fit (question x c.args.query.now) (c.args.r ∷ []) c.args.marks.now a.0 in
+    let many = rw a.1 at (of_asked n c.ask.view_is c.entries.ensures.value) in
+    let words = Refusing.words_are _ _ _ many c.div_ceil-words.ensures in
+    let room = rw (← words) at fit.room in
+    sym (length-take-le _ _ room)
 
 pub list_within-requires : goal.list_within-requires
-unfolding cat
 list_within-requires c =
-    let s : Start = search in
-    let f = fit s _ c.refused-early.ensures c.in_default.is in
-    record { asked = f.asked; r_bound = ltb-false _ _ (sym (any_one _ _) ∙ f.limited); marks_len = (length-take-le _ _ f.room, refl) }
+    let x = c.args.index.now in
+    let a = Refusing.accepted x c.args.query.now (c.args.r ∷ []) c.args.marks.now c.in_ok-ask.ensures in
+    let fit = Refusing.fit (question x c.args.query.now) (c.args.r ∷ []) c.args.marks.now a.0 in
+    let many = rw a.1 at (of_asked n c.ask.view_is c.entries.ensures.value) in
+    let words = Refusing.words_are _ _ _ many c.div_ceil-words.ensures in
+    let room = rw (← words) at fit.room in
+    rw a.1 (record { r_bound = ltb-false _ _ (sym (any_one _ _) ∙ fit.limited); marks_len = length-take-le _ _ room ∙ words })
 
 pub returns : goal.returns
 returns c =
-    let s : Start = search in
-    Answering.within-whole (Ask s) s.args.marks.now _ _ s.args.r (sym c.refused-early.ensures ∙ c.in_default.is) (fit s _ c.refused-early.ensures c.in_default.is).room c.list_within.ensures
+    let x = c.args.index.now in
+    let a = Refusing.accepted x c.args.query.now (c.args.r ∷ []) c.args.marks.now c.in_ok-ask.ensures in
+    let fit = Refusing.fit (question x c.args.query.now) (c.args.r ∷ []) c.args.marks.now a.0 in
+    let many = rw a.1 at (of_asked n c.ask.view_is c.entries.ensures.value) in
+    let words = Refusing.words_are _ _ _ many c.div_ceil-words.ensures in
+    let room = rw (← words) at fit.room in
+    let listed = rw (a.1, words) at c.list_within.ensures in
+    rw words (Answering.within-whole (question x c.args.query.now) c.args.marks.now c.args.entries.now c.args.distances.now c.args.r a.0 fit.room listed)

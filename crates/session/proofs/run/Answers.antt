@@ -5,5 +5,5 @@ use Rattle.session.proofs.run.Goals as goal
 
 pub loop-got-smaller : goal.loop-got-smaller
 loop-got-smaller g c =
-    let less = less_left _ _ _ _ c.turn-turned.ensures c.if-turned.false in
+    let less = less_left _ _ _ _ c.turn-turned.ensures c.in-Some.is in
     omega (arith, less)

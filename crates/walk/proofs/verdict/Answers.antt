@@ -1,34 +1,24 @@
 -- `walk::verdict` meets its contract. Assumes nothing.
+use mathlib.Core.Path.{sym, ◌∙◌}
 use native.Mathlib.Omega.{arith}
-use Rattle.scope.specs.Walk.{Question, distance_of, star_of, tested}
-use Rattle.scope.proofs.Shapes.{facts}
+use Rattle.scope.specs.Shape.{q}
+use Rattle.scope.specs.Tables.{n}
 use Rattle.scope.proofs.Steps.{verdict-none}
 use Rattle.scope.proofs.Walking.{tested-none}
-use Rattle.walk.specs.Rivals.{standing}
-use Rattle.walk.specs.Steps.{asks}
+use Rattle.walk.proofs.Asked.{of_asked, of_index}
 use Rattle.walk.proofs.Joining.{best_none}
 use Rattle.walk.proofs.Stepping
 use Rattle.walk.proofs.verdict.Goals as goal
-use Rattle.walk.proofs.verdict.Goals.{Start}
 
-abbrev Ask : Start → Question
-Ask c = asks c.args.shape c.args.stars.now c.args.codes.now c.args.starts.now c.args.ids.now c.args.query.now
-
-pub returns-then-stars-eq0 : goal.returns-then-stars-eq0
-returns-then-stars-eq0 c =
-    let s : Start = search in
-    let none = best_none (star_of (Ask s)) (standing (distance_of (Ask s))) (tested (Ask s) 0) (tested-none (Ask s)) _ c.start.ensures.rivals.0 c.start.ensures.rivals.1 in
-    rw (verdict-none (Ask s) c.if-stars-eq0.true) (Stepping.walked_none (Ask s) _ _ _ _ c.start.ensures s.requires.fresh none)
-
-pub overflow_mul-shape : goal.overflow_mul-shape
-overflow_mul-shape c = let f = (facts _ c.requires.asked.lent.known).few_words in omega arith
-
-pub until-requires : goal.until-requires
-until-requires c =
-    let f = (facts _ c.requires.asked.lent.known).few_words in
-    record { asked = c.requires.asked; top_bound = (omega arith, omega arith); fresh = c.requires.fresh }
+pub returns-then-entries-eq0 : goal.returns-then-entries-eq0
+returns-then-entries-eq0 c =
+    let none = best_none _ _ _ (tested-none c.args.ask.now) _ c.start.ensures.rivals.0 c.start.ensures.rivals.1 in
+    let e = sym (of_asked n c.ask.view_is c.entries.ensures.value) ∙ c.if-entries-eq0.true in
+    rw (verdict-none c.args.ask.now e) (Stepping.walked_none _ _ _ _ _ c.start.ensures c.requires none)
 
 pub returns : goal.returns
 returns c =
-    let s : Start = search in
-    Stepping.walked_as (Ask s) _ _ _ (Stepping.verdict_steps_lem (Ask s) (let e = c.if-stars-eq0.false in omega arith)) _ _ _ c.until.ensures
+    let top = of_index (λ x. q x.shape) c.index.view_is c.ask.view_is c.q.ensures.value in
+    let e = of_asked n c.ask.view_is c.entries.ensures.value in
+    let ne = c.if-entries-eq0.false in
+    Stepping.walked_as _ _ _ _ (Stepping.verdict_steps_lem c.args.ask.now (omega arith)) _ _ _ (rw top at c.until.ensures)

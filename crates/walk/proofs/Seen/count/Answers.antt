@@ -4,7 +4,7 @@ use mathlib.Core.List.{List}
 use Prim.Native.Nat.{ℕ, ◌+◌, ◌-◌, ◌≤◌, ◌<◌}
 use native.Mathlib.Numerals.{add-one}
 use native.Mathlib.Omega.{arith}
-use lib.ListN.{length, get_or, length-set}
+use lib.ListN.{get_or}
 use Rattle.theory.proofs.Sums.{sum-suc, sum-zero}
 use Rattle.theory.proofs.Tests.{eq-or_ne}
 use Rattle.walk.specs.Limits.{below, raised}
@@ -37,29 +37,9 @@ module _ {k : ℕ} {tally : List ℕ} {limit near last nearer : ℕ} (low : Low 
       let down = low.down in
       record { down = omega arith; near_is = rw back low.nearer-is; nearer-is = omega (arith, within); enough = inl h }
 
--- the list that is counted in is as long as it was
-long : (tally : List ℕ) (d : ℕ) → length tally ≡ 257 → length (raised tally d) ≡ 257
-long tally d e = length-set tally d (get_or tally d 0 + 1) ∙ e
-
-pub bounds-tally-place : goal.bounds-tally-place
-bounds-tally-place c = let whole = c.requires.whole in let inside = c.requires.inside in omega arith
-
-pub overflow_add-tally : goal.overflow_add-tally
-overflow_add-tally c = let few = c.requires.few.1 in omega arith
-
-pub bounds-tally-place-2 : goal.bounds-tally-place-2
-bounds-tally-place-2 c = let whole = c.requires.whole in let inside = c.requires.inside in omega arith
-
-pub overflow_add-near : goal.overflow_add-near
-overflow_add-near c = let few = c.requires.few.0 in omega arith
-
 -- all that are within the limit, with the one more
 all : (l : List ℕ) (limit : ℕ) (near : ℕ) → near ≡ below l (limit + 1) → near ≡ below l limit + get_or l limit 0
 all l limit near e = e ∙ split l limit
-
-pub bounds-tally-last : goal.bounds-tally-last
-bounds-tally-last c =
-    let inside = c.requires.inside in omega (arith, long c.args.tally.now c.args.d c.requires.whole)
 
 pub overflow_sub-nearer : goal.overflow_sub-nearer
 overflow_sub-nearer c =
@@ -73,10 +53,6 @@ pub overflow_sub-last : goal.overflow_sub-last
 overflow_sub-last c =
     omega (arith, positive c.loop-nearer.invariant c.requires.some (let t = c.loop-nearer-test.true in omega arith))
 
-pub bounds-tally-last-in-loop-nearer : goal.bounds-tally-last-in-loop-nearer
-bounds-tally-last-in-loop-nearer c =
-    let inside = c.requires.inside in let down = c.loop-nearer.invariant.down in omega (arith, long c.args.tally.now c.args.d c.requires.whole)
-
 pub overflow_sub-nearer-in-loop-nearer : goal.overflow_sub-nearer-in-loop-nearer
 overflow_sub-nearer-in-loop-nearer c =
     omega (arith, within c.loop-nearer.invariant c.requires.some (let t = c.loop-nearer-test.true in omega arith))
@@ -87,18 +63,3 @@ loop-nearer-smaller c =
 
 pub loop-nearer-preserved : goal.loop-nearer-preserved
 loop-nearer-preserved c = next c.loop-nearer.invariant c.requires.some (let t = c.loop-nearer-test.true in omega arith)
-
-pub overflow_cast-result : goal.overflow_cast-result
-overflow_cast-result c = let inside = c.requires.inside in let down = c.loop-nearer.invariant.down in omega arith
-
-pub returns : goal.returns
-returns c =
-    let inv = c.loop-nearer.invariant in
-    record {
-      tally_is = refl;
-      down = inv.down;
-      near = inv.near_is;
-      tight = let f = inv.nearer-is in let t = c.loop-nearer-test.false in omega arith;
-      enough = inv.enough;
-      tested = refl;
-    }

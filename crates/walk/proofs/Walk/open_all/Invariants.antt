@@ -8,9 +8,9 @@ use lib.ListN.{length}
 use Rattle.masks.specs.Masks.{has_ones}
 use Rattle.scope.specs.Walk.{Question}
 use Rattle.walk.specs.declared.Aim.{Aim}
-use Rattle.walk.specs.declared.Met.TheVariants.{Clear}
 use Rattle.walk.specs.declared.Walk.{Walk}
-use Rattle.walk.specs.Steps.{asks, around, Opening}
+use Rattle.walk.specs.Steps.{around, Opening}
+use Rattle.walk.proofs.Opening.{Clear}
 use Rattle.walk.proofs.Walk.open_all.Given as goal
 
 -- the buckets of the exclusive-ors below e are open, and e has r ones or is past the last; every bit of a bucket's number is under the mask
@@ -18,13 +18,12 @@ pub record Through (ask : Question) (goal : Aim) (z r sub buckets under : ℕ) (
   pub few : buckets ≤ 65536
   pub all : (v : ℕ) → v < buckets → bit_and v under ≡ v
   pub here : e < buckets → has_ones under r e ≡ true
-  pub clear : o.met ≡ Clear
-  pub opened : Opening ask goal (around z r sub (min e buckets)) w o marks marks' tally'
+  pub opened : Opening ask goal (around z r sub (min e buckets)) w o Clear marks marks' tally'
   pub same-marks : length marks' ≡ length marks
   pub same-tally : length tally' ≡ length tally
 
 abbrev pub invariant-loop-e : goal.invariant-loop-e
-invariant-loop-e l = Through (asks l.shape l.stars l.codes l.starts l.ids l.query) l.aim l.z l.r l.sub l.buckets l.under l.initial.w l.w l.initial.marks l.marks l.initial.tally l.tally l.e
+invariant-loop-e l = Through l.ask l.aim l.z l.r l.sub l.buckets l.under l.initial.self l.self l.initial.marks l.marks l.initial.tally l.tally l.e
 
 abbrev pub decreases-loop-e : goal.decreases-loop-e
 decreases-loop-e l = l.buckets - l.e

@@ -1,8 +1,0 @@
--- `lines::put_answer` meets its contract. Assumes nothing.
-use borrow.Author.Rules.{rules}
-use Rattle.lines.proofs.Writing.{field_more}
-use Rattle.lines.proofs.put_answer.Goals as goal
-
-pub returns : goal.returns
-returns c =
-    record { wrote = field_more c.put_number-a.ensures (field_more c.put_number-b.ensures c.put_number.ensures.wrote); short = search rules }

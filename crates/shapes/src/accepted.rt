@@ -1,0 +1,113 @@
+// An index that none of refusals 1 to 3 fits.
+ghost use Rattle.std.specs.Prelude.{◌≡◌, not, ◌||◌, ◌*◌, ◌+◌, ◌≤◌, ◌<◌, eqb, ltb, get_or};
+ghost use Rattle.scope.specs.Refusals.{one_to_three, unless};
+ghost use Rattle.scope.specs.Shape as spec;
+ghost use Rattle.scope.specs.Tables as tables;
+ghost use Rattle.scope.specs.Tables.{n};
+
+use crate::shape::ListedShape;
+use scope::{Index, Refusal};
+use std::marker::Model;
+use std::ops::Range;
+
+// Refusal 2: whether n is too large, or the code list is not n * w words long.
+fn misfit(shape: ListedShape, n: usize, words: usize) -> bool
+    ensures { result ≡ (ltb 65536 n || not (eqb words (n * shape.w))) }
+{
+    65536 < n || words != n * shape.words()
+}
+
+// Refusal 3: whether the starts or the ids are too few for n entries.
+fn short(shape: ListedShape, n: usize, starts: usize, ids: usize) -> bool
+    requires { n ≤ 65536 }
+    ensures { result ≡ (ltb starts (spec.starts_before shape (spec.m shape)) || ltb ids (spec.m shape * n)) }
+{
+    let m = shape.m();
+    starts < shape.starts_before(m) || ids < m * n
+}
+
+// Flat, like Index: only the shape is of another type.
+#[derive(Drop)]
+pub struct Accepted<'a> {
+    pub shape: ListedShape,
+    pub stars: &'a [u32],
+    pub codes: &'a [u64],
+    pub starts: &'a [u32],
+    pub ids: &'a [u32],
+}
+
+impl<'a> Model for Accepted<'a> {
+    ghost use Rattle.scope.specs.Tables.{Index as Tables, index};
+    ghost use Rattle.shapes.specs.Lent.{Lent};
+
+    ghost Value = { Tables };
+
+    ghost view = { λ x. index x.shape x.stars.now x.codes.now x.starts.now x.ids.now };
+
+    ghost invariant = { λ x. Lent (index x.shape x.stars.now x.codes.now x.starts.now x.ids.now) };
+}
+
+impl<'a> Accepted<'a> {
+    // The early check: refusals 1 to 3, in order.
+    pub fn of(index: &Index<'a>) -> Result<Accepted<'a>, Refusal>
+        ensures { result ≡ unless (one_to_three index.now) Err (Ok index.now) }
+    {
+        let shape = ListedShape::try_from(index.shape)?;
+        let n = index.stars.len();
+        if misfit(shape, n, index.codes.len()) {
+            return Err(Refusal::Catalogue);
+        }
+        if short(shape, n, index.starts.len(), index.ids.len()) {
+            return Err(Refusal::Tables);
+        }
+        Ok(Accepted {
+            shape,
+            stars: index.stars,
+            codes: index.codes,
+            starts: index.starts,
+            ids: index.ids,
+        })
+    }
+
+    // How many entries the catalogue has.
+    pub fn entries(&self) -> usize
+        ensures value { result ≡ n self.now }
+        ensures few { result ≤ 65536 }
+    {
+        self.stars.len()
+    }
+
+    // Entry i's star.
+    pub fn star(&self, i: usize) -> u32
+        requires { i < n self.now }
+        ensures { result ≡ get_or self.now.stars i 0 }
+    {
+        let stars = self.stars;
+        stars[i]
+    }
+
+    // The places from start(v) of table z up to start(v + 1), where bucket v's ids stand.
+    pub fn places(&self, z: usize, v: usize) -> Range<usize>
+        requires { (z < spec.m self.now.shape) × (v < spec.size self.now.shape z) }
+        ensures { (result.start ≡ tables.start self.now z v) × (result.end ≡ tables.start self.now z (v + 1)) }
+    {
+        let starts = self.starts;
+        let at = self.shape.starts_before(z) + v;
+        starts[at] as usize..starts[at + 1] as usize
+    }
+
+    // Substring z of entry i.
+    pub fn substring(&self, z: usize, i: usize) -> usize
+        requires { (z < spec.m self.now.shape) × (i < n self.now) }
+        ensures { result ≡ tables.substring_of self.now z i }
+    {
+        let shape = self.shape;
+        codes::entry_substring(
+            self.codes,
+            i,
+            shape.words(),
+            shape.first_bit(z),
+            shape.bits(z),
+        )
+    }
+}

@@ -1,0 +1,2 @@
+-- What one table of a catalogue is, and where its parts stand.
+pub mod Parts

@@ -1,6 +1,0 @@
--- `tirnavoy::tirnavoy_within` meets its contract. Assumes nothing.
-use Rattle.tirnavoy.proofs.Ending.{reported}
-use Rattle.tirnavoy.proofs.tirnavoy_within.Goals as goal
-
-pub returns : goal.returns
-returns c = reported _ _ _ _ _ _ c.report.ensures c.within-found.ensures

@@ -1,0 +1,21 @@
+-- `Question::of` meets its contract. Assumes nothing.
+use mathlib.Core.Path.{◌≡◌, sym, ap, ◌∙◌}
+use lib.ListN.{length}
+use borrow.Author.Tests.{eq-eqb, ne_eqb}
+use Rattle.scope.specs.Refusals.{unless}
+use Rattle.scope.specs.Tables.{Index}
+use Rattle.walk.proofs.question.Question.of.Goals as goal
+use Rattle.walk.proofs.question.Question.of.Goals.{Then-query-words, Else-query-words}
+
+pub returns-then-query-words : goal.returns-then-query-words
+unfolding unless
+returns-then-query-words c =
+    let w = ap (λ (x : Index). x.shape.w) c.index.view_is in
+    rw (ne_eqb (length c.args.query.now) c.args.index.shape.w (λ e. c.if-query-words.true (e ∙ sym w ∙ sym c.words.ensures)))
+
+is : (c : Else-query-words) → length c.args.query.now ≡ c.args.index.shape.w
+is c = c.if-query-words.false ∙ c.words.ensures ∙ ap (λ (x : Index). x.shape.w) c.index.view_is
+
+pub returns : goal.returns
+unfolding unless
+returns c = rw (eq-eqb _ _ (is c))
