@@ -28,7 +28,8 @@ use Rattle.scope.proofs.Rows.{one_fits, numbered}
 use Rattle.scope.proofs.Single.{single-near, single_far}
 use Rattle.scope.proofs.Batch.{Clear, clear, end_refused, end_clear, query_long, four_long}
 use Rattle.batch.specs.Part.{Asks, Scratch, total, last_held, fill_end}
-use Rattle.batch.proofs.Refusing.{lent_fits, number_is, all-places}
+use Rattle.shapes.proofs.Accepting.{lent_fits}
+use Rattle.batch.proofs.Refusing.{number_is, all-places}
 
 -- query i's four numbers, and its records
 abbrev outcome : Handed → ℕ → List ℕ

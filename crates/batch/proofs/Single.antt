@@ -13,7 +13,7 @@ use Rattle.scope.specs.Calls.{asked, leaves, SearchEnd, nearest_end}
 use Rattle.scope.specs.Batch.{single, answers_of, record_from, record_of}
 use Rattle.scope.proofs.Single.{call_is, single_few, single-near, single_far, single_known, entry-over, record-over}
 use Rattle.batch.specs.Part.{Listed, Asks}
-use Rattle.batch.proofs.Refusing.{fits_lent}
+use Rattle.shapes.proofs.Accepting.{fits_lent}
 
 module _ {x : Index} {query : List ℕ} {k : ℕ} {marks outcome entries distances : List ℕ} (a : Asks x query k marks outcome entries distances) where
   abbrev e : SearchEnd

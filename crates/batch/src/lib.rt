@@ -28,7 +28,7 @@ fn refused(
         return Err(Refusal::Query);
     }
     let count = queries.len() / w;
-    let words = accepted.entries().div_ceil(64);
+    let words = accepted.mark_words();
     if marks.len() < words {
         return Err(Refusal::Room);
     }
@@ -45,7 +45,7 @@ fn refused(
 }
 
 // A query's outcome: refusal, number of answers, opened, tested.
-fn outcome(found: Result<Report, Refusal>) -> [u32; 4]
+fn outcome_of(found: Result<Report, Refusal>) -> [u32; 4]
     ensures { result ≡ outcome_of found }
 {
     match found {
@@ -90,21 +90,23 @@ fn answer(
     query: &[u64],
     k: u32,
     marks: &mut [u64],
-    told: &mut [u32],
+    outcome: &mut [u32],
     entries: &mut [u32],
     distances: &mut [u32],
     records: &mut [Answer],
 )
-    requires { Asks index.now query.now k marks.old told.old entries.old distances.old }
+    requires { Asks index.now query.now k marks.old outcome.old entries.old distances.old }
     ensures marks_after { marks.new ≡ over (padded (mark_words (n index.now)) []) marks.old }
-    ensures told_after { told.new ≡ outcome_of (single index.now query.now k).answer }
+    ensures outcome_after { outcome.new ≡ outcome_of (single index.now query.now k).answer }
     ensures entries_after { entries.new ≡ over (single index.now query.now k).entries entries.old }
     ensures distances_after { distances.new ≡ over (single index.now query.now k).distances distances.old }
     ensures records_after { records.new ≡ tab (record_of index.now.stars (single index.now query.now k)) (length records.old) }
 {
     let found = search::nearest(index, query, k, marks, entries, distances);
-    told.copy_from_slice(&outcome(found));
-    write(index.stars, told[1], entries, distances, records);
+    let numbers = outcome_of(found);
+    outcome.copy_from_slice(&numbers);
+    let [_, answers, _, _] = numbers;
+    write(index.stars, answers, entries, distances, records);
 }
 
 // The k nearest entries to each of the queries. The two scratch lists take one query's answers at a time.
@@ -126,7 +128,8 @@ pub fn fill(
     codes::clear(marks, index.stars.len().div_ceil(64));
     let w = index.shape.w as usize;
     let part = k as usize;
-    // by index: k may be 0, which is no chunk's length, and after chunks_exact_mut a proof knows no element
+    // by index: k may be 0, which is no chunk's length, and after chunks_exact_mut a proof knows no element;
+    // the queries alone in chunks are no plainer, as a proof must then say what is left of them before each turn
     for i in 0..queries.len() / w {
         let a = i * w;
         let first = 4 * i;

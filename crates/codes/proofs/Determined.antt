@@ -8,12 +8,12 @@ use Rattle.std.specs.declared.clone.Clone as Clone
 use Rattle.codes.specs.declared.Zero as Zero
 use Rattle.theory.specs.Statements.{Determined}
 use Rattle.theory.proofs.Statements.{whole, result, kept}
-use Rattle.codes.specs.contracts.distance as distance
-use Rattle.codes.proofs.distance.Reads as distance_reads
+use Rattle.codes.specs.contracts.Codes.distance as distance
+use Rattle.codes.proofs.Codes.distance.Reads as distance_reads
+use Rattle.codes.specs.contracts.Codes.entry_substring as entry_substring
+use Rattle.codes.proofs.Codes.entry_substring.Reads as entry_substring_reads
 use Rattle.codes.specs.contracts.substring as substring
 use Rattle.codes.proofs.substring.Reads as substring_reads
-use Rattle.codes.specs.contracts.entry_substring as entry_substring
-use Rattle.codes.proofs.entry_substring.Reads as entry_substring_reads
 use Rattle.codes.specs.contracts.marked as marked
 use Rattle.codes.proofs.marked.Reads as marked_reads
 use Rattle.codes.specs.contracts.mark as mark

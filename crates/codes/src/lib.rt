@@ -8,38 +8,24 @@ ghost use Rattle.scope.specs.Codes.{code_of};
 ghost use Rattle.codes.specs.Distances.{distance_from, limited};
 ghost use Rattle.codes.specs.Marks.{is_marked, with_mark};
 
-// Codes come as C lends them, w words each, with w and the entry i beside them: walk and ranking hold them in types of their own.
+// A list of codes, as C lends them: w words each, one code after another. Which entries it has is the caller's.
+#[derive(Clone, Copy)]
+pub struct Codes<'a> {
+    pub words: &'a [u64],
+    pub w: usize,
+    pub ghost few_words: { w ≤ 4 },
+}
 
-// How many bits of entry i's code and the query differ in the first words.
-fn differing(codes: &[u64], i: usize, w: usize, query: &[u64], words: usize) -> u32
-    requires { (words ≤ w) × (w ≤ 4) × (i * w + w ≤ length codes.now) × (w ≤ length query.now) }
-    ensures { result ≡ spec.distance (64 * words) (code_of w codes.now i) query.now }
+// How many bits of a code and the query differ. The query may have more words.
+fn differing(code: &[u64], query: &[u64]) -> u32
+    requires { (length code.now ≤ 4) × (length code.now ≤ length query.now) }
+    ensures { result ≡ spec.distance (64 * length code.now) code.now query.now }
 {
-    let at = i * w;
     let mut r = 0;
-    for (a, b) in codes[at..at + words].iter().zip(query) {
+    for (a, b) in code.iter().zip(&query[..code.len()]) {
         r += (*a ^ *b).count_ones();
     }
     r
-}
-
-// How many bits of entry i's code and the query differ, if that is at most the limit. First so many words are looked at, if there are more, as are over the limit with 24 bits
-// each: words of unrelated codes differ in 32 bits, hardly ever in fewer than 24.
-pub fn distance(codes: &[u64], i: usize, w: usize, query: &[u64], limit: u32) -> Option<u32>
-    requires { (w ≤ 4) × (i * w + w ≤ length codes.now) × (w ≤ length query.now) }
-    ensures { result ≡ limited limit (distance_from w codes.now query.now i) }
-{
-    if limit as usize + 24 < 24 * w {
-        let few = limit as usize / 24 + 1;
-        if limit < differing(codes, i, w, query, few) {
-            return None;
-        }
-    }
-    let d = differing(codes, i, w, query, w);
-    if limit < d {
-        return None;
-    }
-    Some(d)
 }
 
 // The len bits of a code from bit `from` on, as a number. They may cross from one word into the next.
@@ -58,14 +44,45 @@ pub fn substring(code: &[u64], from: usize, len: usize) -> usize
     }
 }
 
-// The same of entry i's code.
-pub fn entry_substring(codes: &[u64], i: usize, w: usize, from: usize, len: usize) -> usize
-    requires { (1 ≤ len) × (len ≤ 32) × (w ≤ 4) × (from + len ≤ 64 * w) × (i * w + w ≤ length codes.now) }
-    ensures { result ≡ spec.substring from len (code_of w codes.now i) }
-{
-    let a = i * w;
-    let e = a + w;
-    substring(&codes[a..e], from, len)
+impl<'a> Codes<'a> {
+    // Entry i's code.
+    fn code(self, i: usize) -> &'a [u64]
+        requires { i * self.w + self.w ≤ length self.words.now }
+        ensures value { result.now ≡ code_of self.entry.w self.entry.words.now i }
+        ensures whole { length result.now ≡ self.entry.w }
+    {
+        let at = i * self.w;
+        let words = self.words;
+        &words[at..at + self.w]
+    }
+
+    // How many bits of entry i's code and the query differ, if that is at most the limit. Where the limit is low, a first look goes over just as many words as exceed it at 24 bits
+    // each: words of unrelated codes differ in about 32 bits, hardly ever in fewer than 24.
+    pub fn distance(self, i: usize, query: &[u64], limit: u32) -> Option<u32>
+        requires { (i * self.w + self.w ≤ length self.words.now) × (self.w ≤ length query.now) }
+        ensures { result ≡ limited limit (distance_from self.entry.w self.entry.words.now query.now i) }
+    {
+        let code = self.code(i);
+        if limit as usize + 24 < 24 * self.w {
+            let few = limit as usize / 24 + 1;
+            if limit < differing(&code[..few], query) {
+                return None;
+            }
+        }
+        let d = differing(code, query);
+        if limit < d {
+            return None;
+        }
+        Some(d)
+    }
+
+    // The len bits of entry i's code from bit `from` on.
+    pub fn entry_substring(self, i: usize, from: usize, len: usize) -> usize
+        requires { (1 ≤ len) × (len ≤ 32) × (from + len ≤ 64 * self.w) × (i * self.w + self.w ≤ length self.words.now) }
+        ensures { result ≡ spec.substring from len (code_of self.entry.w self.entry.words.now i) }
+    {
+        substring(self.code(i), from, len)
+    }
 }
 
 // Whether entry i is marked.

@@ -5,10 +5,10 @@ use Prim.Native.Nat.{ℕ, zero, suc, ◌+◌, ◌*◌, ◌≤◌, ◌<◌}
 use native.Mathlib.Numerals.{add-one}
 use native.Mathlib.Omega.{arith}
 use lib.ListN.{length, get_or, take, set, length-append}
-use lib.Seq.{sets, take_all}
+use lib.Seq.{sets, take_all, get_or-take}
 use Rattle.std.proofs.lemmas.List.{take_more}
 use Rattle.theory.specs.Lists.{cat}
-use Rattle.theory.proofs.Lists.{sets_append}
+use Rattle.theory.proofs.Lists.{sets_append, cat_cong}
 use Rattle.lines.specs.Lines.{answer_line, answer_lines}
 use Rattle.lines.specs.Text.{line}
 use Rattle.lines.specs.Wrote.{Wrote, Put, text_of, width, room}
@@ -96,6 +96,15 @@ module _ (fields front : List Field) (last : Field) (e : fields ≡ front ++ las
         wrote = wrote_is (sym (ap (λ (fs : List Field). line (map text_of fs)) e ∙ line_is front last)) (wrote_more w (wrote_more f.wrote end));
         short = omega (arith, ap room t, last_fits, b.short, f.short, end.place);
       }
+
+-- lists cut to the first n answers list the same
+pub lines_cut : (stars entries distances : List ℕ) (n : ℕ) → answer_lines stars (take n entries) (take n distances) n ≡ answer_lines stars entries distances n
+unfolding answer_lines
+lines_cut stars entries distances n =
+    cat_cong _ _ n (λ i lt.
+    let e = get_or-take n entries i 0 lt in
+    let d = get_or-take n distances i 0 lt in
+    λ j. answer_line (e j) (get_or stars (e j) 0) (d j))
 
 -- the lines of the first i answers
 pub record Listing (l₀ : List ℕ) (at : ℕ) (stars entries distances : List ℕ) (n : ℕ) (l : List ℕ) (p i : ℕ) : Type 0 where

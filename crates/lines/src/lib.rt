@@ -10,9 +10,9 @@ ghost use Rattle.lines.specs.Wrote.{Wrote, Put, text_of, width, room};
 use itoa::Buffer;
 use scope::{Refusal, Report, Verdict, VerdictReport};
 
-const SPACE: u8 = 32;
+const SPACE: u8 = b' ';
 
-const END: u8 = 10;
+const END: u8 = b'\n';
 
 // What stands in a line: a word, a number in decimal, or a code in 16 hexadecimal digits.
 #[derive(Clone, Copy)]
@@ -55,7 +55,8 @@ pub fn put_found(
     match found {
         Ok(report) => {
             let a = put_counts(out, at, number, word, report);
-            put_answers(out, a, stars, entries, distances, report.answers as usize)
+            let n = report.answers as usize;
+            put_answers(out, a, stars, &entries[..n], &distances[..n])
         }
         Err(why) => put_refused(out, at, number, why),
     }
@@ -71,10 +72,7 @@ pub fn put_judged(
     ensures { Put 64 out.old at (judged_line number judged) out.new result }
 {
     match judged {
-        Ok(report) => {
-            let verdict = report.verdict;
-            put_verdict(out, at, number, verdict)
-        }
+        Ok(report) => put_verdict(out, at, number, report.verdict),
         Err(why) => put_refused(out, at, number, why),
     }
 }
@@ -166,20 +164,19 @@ fn put_counts(out: &mut [u8], at: usize, number: u32, word: &[u8], report: Repor
     )
 }
 
-// A line for each of the first n answers.
+// A line for each answer.
 fn put_answers(
     out: &mut [u8],
     at: usize,
     stars: &[u32],
     entries: &[u32],
     distances: &[u32],
-    n: usize,
 ) -> usize
-    requires { (n ≤ length entries.now) × (n ≤ length distances.now) × (at + 33 * n + 64 ≤ length out.old) }
-    ensures { Put (33 * n) out.old at (answer_lines stars.now entries.now distances.now n) out.new result }
+    requires { (length entries.now ≡ length distances.now) × (at + 33 * length entries.now + 64 ≤ length out.old) }
+    ensures { Put (33 * length entries.now) out.old at (answer_lines stars.now entries.now distances.now (length entries.now)) out.new result }
 {
     let mut place = at;
-    for (&entry, &distance) in entries[..n].iter().zip(&distances[..n]) {
+    for (&entry, &distance) in entries.iter().zip(distances) {
         place = put_answer(out, place, entry, star_of(stars, entry), distance);
     }
     place
@@ -272,5 +269,6 @@ fn glyph(d: u64) -> u8
     requires { d < 16 }
     ensures { result ≡ digit d }
 {
-    if d < 10 { 48 + d as u8 } else { 87 + d as u8 }
+    let d = d as u8;
+    if d < 10 { b'0' + d } else { b'a' + (d - 10) }
 }

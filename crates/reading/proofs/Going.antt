@@ -14,7 +14,7 @@ use Rattle.theory.proofs.Tests.{both_ways, or-true, and_left, and_right}
 use Rattle.theory.proofs.Lists.{tab_cong}
 use Rattle.scope.specs.declared.Unit.{Unit}
 use Rattle.reading.specs.Bytes.{number_at}
-use Rattle.reading.specs.Records.{◌>>=◌, front_of, by_front, record_of, kind_of, takes, meaning_of, head_of, code_behind, unit_of, body_in, Next, wanted, chunk_of, ends}
+use Rattle.reading.specs.Records.{◌>>=◌, front_of, by_front, record_of, kind_of, takes, meaning_of, head_of, code_at, code_behind, unit_of, body_in, Next, wanted, chunk_of, ends}
 use Rattle.reading.specs.Offsets.{angles_at, across_of, up_of}
 use Rattle.reading.specs.declared.Session.{Session}
 use Rattle.reading.specs.declared.Front.{Front}
@@ -99,7 +99,7 @@ Filled b (Sky unit n) = length b ≡ 16 * n + 1
 
 abbrev Fits : Session → List ℕ → Record → Type 0
 Fits session b (Head w m) = (session.words ≡ 0) × Headed w m
-Fits session b (Entry star code) = (session.words ≡ 0 → ⊥) × (session.asked ≡ false) × (session.entries < 512)
+Fits session b (Entry star code) = ((session.words ≡ 0 → ⊥) × (session.asked ≡ false) × (session.entries < 512)) × (code ≡ code_at session.words b 4)
 Fits session b (Ask q) = (session.words ≡ 0 → ⊥) × Filled b q
 
 module _ (session : Session) (b : List ℕ) (rec : Record) where
@@ -126,11 +126,12 @@ module _ (session : Session) (b : List ℕ) (rec : Record) where
   kind_fits kind.Head p = let (t, h) = kept (eqb (length b) 2 && eqb (get_or b 1 0) 8) _ _ p.body in head-Fits (get_or b 0 0) (64 * get_or b 0 0 / 8) p.may h
   kind_fits kind.TablesHead p = let (t, h) = kept (eqb (length b) 2) _ _ p.body in head-Fits (get_or b 0 0) (get_or b 1 0) p.may h
   kind_fits kind.Entry p =
-      let (code, _, is) = made (code_behind 4 session.words b) _ _ p.body in
+      let (code, behind, is) = made (code_behind 4 session.words b) _ _ p.body in
+      let (_, read) = kept (eqb (length b) (4 + 8 * session.words)) _ _ behind in
       let some = and_left (not (eqb session.words 0)) _ p.may in
       let open_ = and_right (not (eqb session.words 0)) _ p.may in
       subst (Fits session b) is
-      (some_words some, not-true _ (and_left (not session.asked) _ open_), ltb-true _ _ (and_right (not session.asked) _ open_))
+      ((some_words some, not-true _ (and_left (not session.asked) _ open_), ltb-true _ _ (and_right (not session.asked) _ open_)), cc)
   kind_fits kind.Nearest p = ask-Fits 2 (λ code. Nearest (number_at 2 b 0) code) (λ _. tt) p.may p.body
   kind_fits kind.Within p = ask-Fits 2 (λ code. Within (number_at 2 b 0) code) (λ _. tt) p.may p.body
   kind_fits kind.Verdict p = ask-Fits 4 (λ code. Verdict (number_at 2 b 0) (number_at 2 b 2) code) (λ _. tt) p.may p.body
@@ -154,7 +155,11 @@ module _ (session : Session) (s : List ℕ) where
 
   pub entry_next : (star : ℕ) (code : Code) → record_of session s ≡ Ok (Some (Entry star code))
       → (session.words ≡ 0 → ⊥) × (session.asked ≡ false) × (session.entries < 512)
-  entry_next star code e = fits (Entry star code) e
+  entry_next star code e = (fits (Entry star code) e).0
+
+  -- its code stands behind its star, in the session's words
+  pub entry_code : (star : ℕ) (code : Code) → record_of session s ≡ Ok (Some (Entry star code)) → code ≡ code_at session.words (take (number_at 2 s 0) (drop 4 s)) 4
+  entry_code star code e = (fits (Entry star code) e).1
 
   pub ask_last : (q : Question) → record_of session s ≡ Ok (Some (Ask q)) → session.words ≡ 0 → ⊥
   ask_last q e = (fits (Ask q) e).0

@@ -1,24 +1,20 @@
--- A number byte by byte, the lowest first. Assumes nothing.
-use mathlib.Core.Path.{◌≡◌, refl, ap}
+-- A number is that of its own bytes. Assumes nothing.
+use mathlib.Core.Path.{◌≡◌, refl, ap, ◌∙◌}
 use mathlib.Core.List.{List}
-use Prim.Native.Nat.{ℕ, zero, suc, ◌+◌, ◌*◌}
+use Prim.Native.Nat.{ℕ, zero, suc, ◌+◌, ◌≤◌}
 use native.Mathlib.Omega.{arith}
-use lib.ListN.{get_or}
+use lib.ListN.{take, drop}
+use lib.Seq.{get_or-take, get_or-drop}
 use Rattle.reading.specs.Bytes.{number_at}
 
-module _ (k : ℕ) (s : List ℕ) (at : ℕ) where
-  pub first_byte : number_at (suc k) s at ≡ get_or s at 0 + 256 * number_at k s (at + 1)
-  unfolding number_at
-  first_byte =
-      let e : suc at ≡ at + 1 = omega arith in
-      ap (λ i. get_or s at 0 + 256 * number_at k s i) e
-
-  pub next_byte : (j : ℕ) → number_at (suc k) s (at + j) ≡ get_or s (at + j) 0 + 256 * number_at k s (at + suc j)
-  unfolding number_at
-  next_byte j =
-      let e : suc (at + j) ≡ at + suc j = omega arith in
-      ap (λ i. get_or s (at + j) 0 + 256 * number_at k s i) e
-
-pub no_byte : (s : List ℕ) (at : ℕ) → number_at zero s at ≡ 0
+number-part : (k : ℕ) (s : List ℕ) (at m j : ℕ) → j + k ≤ m → number_at k (take m (drop at s)) j ≡ number_at k s (at + j)
 unfolding number_at
-no_byte s at = refl
+number-part zero s at m j h = refl
+number-part (suc k) s at m j h =
+    let e : at + suc j ≡ suc (at + j) = omega arith in
+    rw (get_or-take m (drop at s) j 0 (omega arith), get_or-drop at s j 0, number-part k s at m (suc j) (omega arith), e)
+
+pub own_bytes : (k : ℕ) (s : List ℕ) (at : ℕ) {own : List ℕ} → own ≡ take k (drop at s) → number_at k own 0 ≡ number_at k s at
+own_bytes k s at e =
+    let start : at + 0 ≡ at = omega arith in
+    ap (λ (l : List ℕ). number_at k l 0) e ∙ number-part k s at k 0 (omega arith) ∙ ap (number_at k s) start

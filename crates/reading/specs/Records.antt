@@ -1,5 +1,5 @@
 -- Records: length (2 bytes, the body's only), kind (2 bytes), body, all little-endian. Assumes nothing.
-use Rattle.std.specs.Prelude.{ℕ, ◌+◌, ◌*◌, ◌/◌, ◌%◌, Bool, true, false, not, cond, ◌&&◌, ◌||◌, List, length, get_or, take, drop, ltb, leb, eqb, Option, Some, None, Result, Ok, Err}
+use Rattle.std.specs.Prelude.{ℕ, ◌+◌, ◌*◌, ◌/◌, ◌%◌, Bool, true, false, not, cond, ◌&&◌, ◌||◌, List, [], ◌∷◌, length, get_or, take, drop, ltb, leb, eqb, Option, Some, None, Result, Ok, Err}
 use Rattle.scope.specs.declared.Unit.{Unit}
 use Rattle.scope.specs.declared.Unit.TheVariants as unit
 use Rattle.reading.specs.Bytes.{number_at}
@@ -9,6 +9,7 @@ use Rattle.reading.specs.declared.Front.{Front}
 use Rattle.reading.specs.declared.Kind.{Kind}
 use Rattle.reading.specs.declared.Kind.TheVariants as kind
 use Rattle.reading.specs.declared.Code.{Code}
+use Rattle.reading.specs.declared.Code.TheVariants.{One, Two}
 use Rattle.reading.specs.declared.Question.TheVariants.{Nearest, Within, Verdict, Sky}
 use Rattle.reading.specs.declared.Record.{Record}
 use Rattle.reading.specs.declared.Record.TheVariants.{Head, Entry, Ask}
@@ -46,9 +47,9 @@ rest_of s = drop (4 + wanted s) s
 
 -- ---- the body b of each kind, a code being w words
 
--- the code from place at on; its second word is 0 where w is 1
+-- the code from place at on
 abbrev pub code_at : ℕ → List ℕ → ℕ → Code
-code_at w b at = record { low = number_at 8 b at; high = cond (eqb w 2) (number_at 8 b (at + 8)) 0 }
+code_at w b at = cond (eqb w 2) (Two (number_at 8 b at ∷ number_at 8 b (at + 8) ∷ [])) (One (number_at 8 b at ∷ []))
 
 -- the code that ends a body, behind at bytes
 abbrev pub code_behind : ℕ → ℕ → List ℕ → Result Code Bad

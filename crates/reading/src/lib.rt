@@ -13,11 +13,14 @@ ghost use Rattle.reading.specs.Offsets.{angles_at, across_of, up_of};
 use scope::Unit;
 use std::num::f64_from_bits_with_nan;
 
-const LONGEST_BODY: usize = 8193;
+pub const LONGEST_BODY: usize = 8193;
+
+// Length and kind, 2 bytes each, and the body.
+pub const LONGEST_RECORD: usize = 4 + LONGEST_BODY;
 
 const MOST_RECORDS: u32 = 65535;
 
-const MOST_ENTRIES: u32 = 512;
+pub const MOST_ENTRIES: u32 = 512;
 
 // Where the first star's angles stand in a sky record: after length, kind and unit.
 const ACROSS: usize = 5;
@@ -32,6 +35,7 @@ pub struct Bad;
 #[derive(Clone, Copy, Debug, PartialEq, Eq)]
 pub struct Front {
     pub length: usize,
+    // no `Kind`: `meaning_of` goes by the number, so that `same_head` can say of kinds 1 and 7 what the format says of them
     pub kind: u32,
 }
 
@@ -46,11 +50,11 @@ pub enum Kind {
     TablesHead,
 }
 
-// A code of one or two words; the second is 0 where there is one.
+// The words of a code, the lowest bits first.
 #[derive(Clone, Copy, Debug, PartialEq, Eq)]
-pub struct Code {
-    pub low: u64,
-    pub high: u64,
+pub enum Code {
+    One([u64; 1]),
+    Two([u64; 2]),
 }
 
 // What is asked: k, r, or t and g, with a code; or the unit and the number of stars, whose angles stay in the body.
@@ -203,6 +207,7 @@ struct Body<'a> {
     ghost some_words: { 0 < words },
 }
 
+// A function for each kind of body, as the format has them. One for `nearest` and `within` would take the constructor, and a clause say what that makes.
 impl Body<'_> {
     fn entry(self) -> Result<Record, Bad>
         ensures { result ≡ entry_in self.entry.words self.entry.bytes.now }
@@ -243,12 +248,11 @@ impl Body<'_> {
             return Err(Bad);
         }
         let low = eight_at(b, at);
-        let high = if self.words == 2 {
-            eight_at(b, at + 8)
+        if self.words == 2 {
+            Ok(Code::Two([low, eight_at(b, at + 8)]))
         } else {
-            0
-        };
-        Ok(Code { low, high })
+            Ok(Code::One([low]))
+        }
     }
 }
 
@@ -275,7 +279,7 @@ impl TryFrom<u32> for Kind {
 // No Option: 0 is a number of bytes, and in each case none is to be read.
 #[tactic(auto, unfolding(crate::specs::Records::wanted))]
 pub fn body_length(s: &[u8]) -> usize
-    ensures { (result ≡ wanted s.now) × (result ≤ 8193) }
+    ensures { (result ≡ wanted s.now) × (result ≤ LONGEST_BODY) }
 {
     if s.len() < 4 {
         return 0;
@@ -355,6 +359,7 @@ fn sky(b: &[u8]) -> Result<Record, Bad>
     Ok(Record::Ask(Question::Sky(unit, b.len() / 16)))
 }
 
+// No `TryFrom`, as `Kind` has: `u8` and `Unit` are both of another crate.
 fn unit_of(byte: u8) -> Result<Unit, Bad>
     ensures { result ≡ unit_of byte }
 {
@@ -377,7 +382,8 @@ pub fn read_offsets(s: &[u8], n: usize, across: &mut [f64], up: &mut [f64])
     read_angles(s, UP, &mut up[..n]);
 }
 
-// The angles that stand at every 16th byte from place `at` on.
+// The angles that stand at every 16th byte from place `at` on. By place: in a record without stars UP is behind the end, where no chunk can begin,
+// and std has no lemma of what a zip of `iter_mut` with chunks leaves.
 fn read_angles(s: &[u8], at: usize, list: &mut [f64])
     requires { at + 16 * length list.old ≤ length s.now + 8 }
     ensures { list.new ≡ angles_at s.now at (length list.old) }
@@ -387,36 +393,39 @@ fn read_angles(s: &[u8], at: usize, list: &mut [f64])
     }
 }
 
-// ---- the number in the 2, 4 or 8 bytes from place `at` on, little-endian; byte by byte, since an array from a slice is a Result, whose Err could not come
+// ---- the number in the 2, 4 or 8 bytes from place `at` on, little-endian
 
-#[tactic(auto, using(crate::proofs::Numbers::first_byte, crate::proofs::Numbers::next_byte, crate::proofs::Numbers::no_byte))]
+#[tactic(auto, unfolding(crate::specs::Bytes::number_at))]
 fn two_at(s: &[u8], at: usize) -> u32
     requires { at + 2 ≤ length s.now }
     ensures { result ≡ number_at 2 s.now at }
 {
-    u32::from(u16::from_le_bytes([s[at], s[at + 1]]))
+    u32::from(u16::from_le_bytes(bytes(s, at)))
 }
 
-#[tactic(auto, using(crate::proofs::Numbers::first_byte, crate::proofs::Numbers::next_byte, crate::proofs::Numbers::no_byte))]
+#[tactic(auto, unfolding(crate::specs::Bytes::number_at))]
 fn four_at(s: &[u8], at: usize) -> u32
     requires { at + 4 ≤ length s.now }
     ensures { result ≡ number_at 4 s.now at }
 {
-    u32::from_le_bytes([s[at], s[at + 1], s[at + 2], s[at + 3]])
+    u32::from_le_bytes(bytes(s, at))
 }
 
+#[tactic(auto, unfolding(crate::specs::Bytes::number_at))]
 fn eight_at(s: &[u8], at: usize) -> u64
     requires { at + 8 ≤ length s.now }
     ensures { result ≡ number_at 8 s.now at }
 {
-    u64::from_le_bytes([
-        s[at],
-        s[at + 1],
-        s[at + 2],
-        s[at + 3],
-        s[at + 4],
-        s[at + 5],
-        s[at + 6],
-        s[at + 7],
-    ])
+    u64::from_le_bytes(bytes(s, at))
+}
+
+// The N bytes of that number. Copied, since std makes an array of a slice by a Result, whose Err could not come.
+#[tactic(auto, using(crate::proofs::Numbers::own_bytes))]
+fn bytes<const N: usize>(s: &[u8], at: usize) -> [u8; N]
+    requires { at + N ≤ length s.now }
+    ensures { number_at N result 0 ≡ number_at N s.now at }
+{
+    let mut bytes = [0; N];
+    bytes.copy_from_slice(&s[at..at + N]);
+    bytes
 }

@@ -29,32 +29,42 @@ use Rattle.lines.specs.Wrote.{Wrote, Put}
 use Rattle.lines.proofs.Writing.{wrote_is, wrote_more}
 use Rattle.transcript.specs.Opening.{opening}
 use Rattle.transcript.specs.Questions.{asks, searched, Reply, reply}
-use Rattle.transcript.specs.Turn.{desk, desk_after, text_of, turns, turn_at, turn_end}
+use Rattle.transcript.specs.Turn.{desk, index_of, tabled, desk_after, text_of, turns, turn_at, turn_end}
+use Rattle.transcript.specs.declared.Catalogue.{Catalogue}
 use Rattle.transcript.specs.declared.Desk.{Desk}
+use Rattle.transcript.specs.declared.TheConstants.{ENTRIES, TEXT}
 use Rattle.transcript.proofs.Replies.{nearest_few, within_few}
-use Rattle.records.specs.Arms.{StarsFit, tabled, index_on, word_of, end_of, Listed, Replied, Judging, Taken}
-use Rattle.records.specs.declared.Search.{Search}
-use Rattle.records.specs.declared.Search.TheVariants as search
+use Rattle.records.specs.Arms.{StarsFit, word_of, Listed, Replied, Judging, Taken}
+use Rattle.search.specs.declared.Sought.{Sought}
+use Rattle.search.specs.declared.Sought.TheVariants as sought
+use Rattle.search.specs.Sought.{sought_end}
 
 -- a search lists no more entries than there are
-pub few : (s : Search) (c : Asked) → answers_of (end_of s c).answer ≤ n c.question.index
+pub few : (s : Sought) (c : Asked) → answers_of (sought_end s c).answer ≤ n c.question.index
 unfolding nearest_end within_end search_end
-few (search.Nearest k) c = omega (arith, nearest_few c k)
-few (search.Within r) c = within_few c r
+few (sought.Nearest k) c = omega (arith, nearest_few c k)
+few (sought.Within r) c = within_few c r
 
-pub short : (s : Search) → length (word_of s) ≤ 8
-short (search.Nearest k) = omega arith
-short (search.Within r) = omega arith
+pub short : (s : Sought) → length (word_of s) ≤ 8
+short (sought.Nearest k) = omega arith
+short (sought.Within r) = omega arith
 
-module _ (session : Session) (which : Search) (code : Code) {d d' : Desk} {f : Result Report Refusal} (l : Listed d (end_of which (asks (index_on session d) d.lists code)) f d') where
-  pub most : length d.stars ≡ 512 → answers_of f ≤ 512
-  most h = omega (arith, ap answers_of l.answer, few which (asks (index_on session d) d.lists code), length-take session.entries d.stars)
+module _ (session : Session) (which : Sought) (code : Code) {d d' : Desk} {f : Result Report Refusal} (l : Listed d (sought_end which (asks (index_of session d.catalogue) d.lists code)) f d') where
+  pub most : length d'.catalogue.stars ≡ ENTRIES → answers_of f ≤ ENTRIES
+  most h =
+      omega (
+        arith,
+        ap answers_of l.answer,
+        few which (asks (index_of session d.catalogue) d.lists code),
+        length-take session.entries d.catalogue.stars,
+        ap (λ (x : Desk). length x.catalogue.stars) l.desk,
+      )
 
   pub listed : {word : List ℕ} {number room : ℕ} {stars out : List ℕ} {at : ℕ} {out' : List ℕ} {r : ℕ} → word ≡ word_of which → number ≡ number_of session
-      → stars ≡ take session.entries d'.stars → Put room out at (found_lines word number f stars d'.lists.entries d'.lists.distances) out' r → r ≤ 17408
-      → Replied d (searched (word_of which) (number_of session) (take session.entries d.stars) (end_of which (asks (index_on session d) d.lists code))) out at d' out' r
+      → stars ≡ take session.entries d'.catalogue.stars → Put room out at (found_lines word number f stars d'.lists.entries d'.lists.distances) out' r → r ≤ TEXT
+      → Replied d (searched (word_of which) (number_of session) (take session.entries d.catalogue.stars) (sought_end which (asks (index_of session d.catalogue) d.lists code))) out at d' out' r
   listed p q e w room =
-      let kept = e ∙ ap (λ (x : Desk). take session.entries x.stars) l.desk in
+      let kept = e ∙ ap (λ (x : Desk). take session.entries x.catalogue.stars) l.desk in
       record {
         desk = l.desk;
         text = wrote_is (λ i. found_lines (p i) (q i) (l.answer i) (kept i) (l.desk i).lists.entries (l.desk i).lists.distances) w.wrote;
@@ -65,27 +75,27 @@ module _ (session : Session) (which : Search) (code : Code) {d d' : Desk} {f : R
 
 -- what is printed and left where the question q is asked over the desk's tables
 abbrev pub reply_on : Session → Desk → Question → List ℕ → Reply
-reply_on session d q s = reply (number_of session) (index_on session d) d.lists q s
+reply_on session d q s = reply (number_of session) (index_of session d.catalogue) d.lists q s
 
-pub answered : (session : Session) (d : Desk) (q : Question) (s : List ℕ) {d₁ d₂ : Desk} {out out₁ : List ℕ} {at : ℕ} {out' : List ℕ} {r : ℕ}
-    → d₁ ≡ tabled session d → Put 64 out 0 (opening session) out₁ at → Replied d₁ (reply_on session d₁ q s) out₁ at d₂ out' r → 17408 ≤ length out
-    → Taken session (Ask q) s d out d₂ out' r
+pub answered : (session : Session) (d : Desk) (q : Question) (s : List ℕ) {x : Catalogue} {d' : Desk} {out out₁ : List ℕ} {at : ℕ} {out' : List ℕ} {r : ℕ}
+    → x ≡ tabled session d.catalogue → Put 64 out 0 (opening session) out₁ at → Replied (desk x d.lists) (reply_on session (desk x d.lists) q s) out₁ at d' out' r
+    → TEXT ≤ length out → Taken session (Ask q) s d out d' out' r
 answered session d q s e p w roomy =
     record {
-      desk = w.desk ∙ (λ i. let d = e i in desk d.stars d.codes d.starts d.ids (reply_on session d q s).lists);
-      text = wrote_more p.wrote (wrote_is (λ i. (reply_on session (e i) q s).text) w.text);
+      desk = w.desk ∙ (λ i. desk (e i) (reply_on session (desk (e i) d.lists) q s).lists);
+      text = wrote_more p.wrote (wrote_is (λ i. (reply_on session (desk (e i) d.lists) q s).text) w.text);
       room = omega (arith, w.room);
     }
 
 module _ (session : Session) (d : Desk) (s : List ℕ) {d' : Desk} {out : List ℕ} {at : ℕ} {out' : List ℕ} {r : ℕ} where
   pub nearest_replied : (k : ℕ) (code : Code)
-      → Replied d (searched (word_of (search.Nearest k)) (number_of session) (index_on session d).stars (end_of (search.Nearest k) (asks (index_on session d) d.lists code))) out at d' out' r
+      → Replied d (searched (word_of (sought.Nearest k)) (number_of session) (index_of session d.catalogue).stars (sought_end (sought.Nearest k) (asks (index_of session d.catalogue) d.lists code))) out at d' out' r
       → Replied d (reply_on session d (Nearest k code) s) out at d' out' r
   unfolding reply
   nearest_replied k code w = w
 
   pub within_replied : (k : ℕ) (code : Code)
-      → Replied d (searched (word_of (search.Within k)) (number_of session) (index_on session d).stars (end_of (search.Within k) (asks (index_on session d) d.lists code))) out at d' out' r
+      → Replied d (searched (word_of (sought.Within k)) (number_of session) (index_of session d.catalogue).stars (sought_end (sought.Within k) (asks (index_of session d.catalogue) d.lists code))) out at d' out' r
       → Replied d (reply_on session d (Within k code) s) out at d' out' r
   unfolding reply
   within_replied k code w = w

@@ -1,8 +1,9 @@
 // One turn of a session: what it knows and one record in, what it knows next and the text out. No input and no output.
-// Each function that prints writes from a place of `out` on, and returns the place after, as those of lines do.
+// Each function that prints returns the place after its text. `ask`, `ask_verdict` and `ask_sky` write from a place of `out` on, as the functions of lines do,
+// the others from its front.
 #![tactic(auto)]
 
-ghost use Rattle.std.specs.Prelude.{◌≡◌, cond, ◌+◌, ◌*◌, ◌≤◌, ◌<◌, eqb, length, take, Ok, Some};
+ghost use Rattle.std.specs.Prelude.{◌≡◌, ◌+◌, ◌*◌, ◌≤◌, ◌<◌, length, take, Ok, Some};
 ghost use Rattle.lines.specs.Lines.{sky_line};
 ghost use Rattle.lines.specs.Wrote.{Put};
 ghost use Rattle.scope.specs.Calls.{sky_answer};
@@ -10,23 +11,18 @@ ghost use Rattle.reading.specs.Offsets.{across_of, up_of};
 ghost use Rattle.reading.specs.Records.{record_of};
 ghost use Rattle.reading.specs.State.{number_of};
 ghost use Rattle.transcript.specs.Opening.{opening, ending};
-ghost use Rattle.transcript.specs.Questions.{shape_of, asks, searched};
-ghost use Rattle.transcript.specs.Turn.{turns, turn_end};
-ghost use Rattle.records.specs.Arms.{StarsFit, kept, tabled, index_on, word_of, end_of, Listed, Replied, Judging, Taken};
+ghost use Rattle.transcript.specs.Questions.{shape_of, words_of, asks, searched};
+ghost use Rattle.transcript.specs.Turn.{index_of, with_entry, tabled, turns, turn_end};
+ghost use Rattle.search.specs.Sought.{sought_end};
+ghost use Rattle.records.specs.Arms.{StarsFit, word_of, Listed, Replied, Judging, Taken};
 
 use reading::{Code, Question, Record, Session};
 use scope::{Index, Refusal, Report, Shape, Unit};
-use transcript::{Desk, Turned};
-
-// The searches that list entries: with k, and with r.
-#[derive(Clone, Copy, Debug, PartialEq, Eq)]
-enum Search {
-    Nearest(u32),
-    Within(u32),
-}
+use search::Sought;
+use transcript::{Catalogue, Desk, ENTRIES, TEXT, Turned};
 
 // The turn at the record at the front of s. The text is written to the front of `out`.
-pub fn turn(session: Session, s: &[u8], desk: &mut Desk, out: &mut [u8; 17408]) -> Turned
+pub fn turn(session: Session, s: &[u8], desk: &mut Desk, out: &mut [u8; TEXT]) -> Turned
     ensures { turns result desk.new out.new ≡ turn_end session desk.old out.old s.now }
 {
     match session.next_record(s) {
@@ -55,14 +51,14 @@ pub fn turn(session: Session, s: &[u8], desk: &mut Desk, out: &mut [u8; 17408]) 
 }
 
 // What the record at the front of s leaves on the desk, and prints.
-fn take(session: Session, rec: Record, s: &[u8], desk: &mut Desk, out: &mut [u8; 17408]) -> usize
+fn take(session: Session, rec: Record, s: &[u8], desk: &mut Desk, out: &mut [u8; TEXT]) -> usize
     requires { record_of session s.now ≡ Ok (Some rec) }
     ensures { Taken session rec s.now desk.old out.old desk.new out.new result }
 {
     match rec {
         Record::Head(_, _) => 0,
         Record::Entry(star, code) => {
-            keep(session, star, code, desk);
+            keep(session, star, code, &mut desk.catalogue);
             0
         }
         Record::Ask(question) => answer(session, question, s, desk, out),
@@ -70,18 +66,15 @@ fn take(session: Session, rec: Record, s: &[u8], desk: &mut Desk, out: &mut [u8;
 }
 
 // Keeps an entry behind those before it.
-fn keep(session: Session, star: u32, code: Code, desk: &mut Desk)
-    requires { session.entries < 512 }
-    ensures { desk.new ≡ kept session star code desk.old }
+fn keep(session: Session, star: u32, code: Code, catalogue: &mut Catalogue)
+    requires { session.entries < ENTRIES }
+    ensures { catalogue.new ≡ with_entry session star code catalogue.old }
 {
     let e = session.entries as usize;
-    desk.stars[e] = star;
-    if session.words == 2 {
-        desk.codes[2 * e] = code.low;
-        desk.codes[2 * e + 1] = code.high;
-    } else {
-        desk.codes[e] = code.low;
-    }
+    catalogue.stars[e] = star;
+    let words = words(&code);
+    let at = words.len() * e;
+    catalogue.codes[at..at + words.len()].copy_from_slice(words);
 }
 
 // The first line, where it is due.
@@ -115,23 +108,25 @@ fn answer(
     question: Question,
     s: &[u8],
     desk: &mut Desk,
-    out: &mut [u8; 17408],
+    out: &mut [u8; TEXT],
 ) -> usize
     requires { StarsFit question (length s.now) }
     ensures { Taken session (Record.Ask question) s.now desk.old out.old desk.new out.new result }
 {
-    build_tables(session, desk);
+    build_tables(session, &mut desk.catalogue);
     let at = put_opening(session, out);
     match question {
-        Question::Nearest(k, code) => ask(session, Search::Nearest(k), code, desk, out, at),
-        Question::Within(r, code) => ask(session, Search::Within(r), code, desk, out, at),
+        Question::Nearest(k, code) => ask(session, Sought::Nearest(k), code, desk, out, at),
+        Question::Within(r, code) => ask(session, Sought::Within(r), code, desk, out, at),
         Question::Verdict(t, g, code) => ask_verdict(session, t, g, code, desk, out, at),
         Question::Sky(unit, n) => ask_sky(session, unit, n, s, out, at),
     }
 }
 
-fn build_tables(session: Session, desk: &mut Desk)
-    ensures { desk.new ≡ tabled session desk.old }
+// The tables, where no question came before. What the builder answers is dropped: after the head it never refuses a session's catalogue and lists (`never_refused`, transcript/proofs/Linking).
+// No `index` here, since the tables are lent to the builder.
+fn build_tables(session: Session, catalogue: &mut Catalogue)
+    ensures { catalogue.new ≡ tabled session catalogue.old }
 {
     if session.asked {
         return;
@@ -139,78 +134,58 @@ fn build_tables(session: Session, desk: &mut Desk)
     let n = session.entries as usize;
     let _ = tables::build(
         shape_of(session),
-        kept(&desk.stars, n),
-        kept(&desk.codes, n * session.words as usize),
-        &mut desk.starts,
-        &mut desk.ids,
+        kept(&catalogue.stars, n),
+        kept(&catalogue.codes, n * session.words as usize),
+        &mut catalogue.starts,
+        &mut catalogue.ids,
     );
 }
 
 // Prints the entries that a search lists.
 fn ask(
     session: Session,
-    search: Search,
+    sought: Sought,
     code: Code,
     desk: &mut Desk,
-    out: &mut [u8; 17408],
+    out: &mut [u8; TEXT],
     at: usize,
 ) -> usize
     requires { at ≤ 64 }
-    ensures { Replied desk.old (searched (word_of search) (number_of session) (take session.entries desk.old.stars) (end_of search (asks (index_on session desk.old) desk.old.lists code))) out.old at desk.new out.new result }
+    ensures { Replied desk.old (searched (word_of sought) (number_of session) (take session.entries desk.old.catalogue.stars) (sought_end sought (asks (index_of session desk.old.catalogue) desk.old.lists code))) out.old at desk.new out.new result }
 {
-    let found = list(session, search, code, desk);
+    let found = list(session, sought, code, desk);
     lines::put_found(
         out,
         at,
         session.number(),
-        word_of(search),
+        word_of(sought),
         found,
-        kept(&desk.stars, session.entries as usize),
+        kept(&desk.catalogue.stars, session.entries as usize),
         &desk.lists.entries,
         &desk.lists.distances,
     )
 }
 
-fn word_of(search: Search) -> &'static [u8]
-    ensures { result.now ≡ word_of search }
+fn word_of(sought: Sought) -> &'static [u8]
+    ensures { result.now ≡ word_of sought }
 {
-    match search {
-        Search::Nearest(_) => b"near",
-        Search::Within(_) => b"within",
+    match sought {
+        Sought::Nearest(_) => b"near",
+        Sought::Within(_) => b"within",
     }
 }
 
-fn list(session: Session, search: Search, code: Code, desk: &mut Desk) -> Result<Report, Refusal>
-    ensures { Listed desk.old (end_of search (asks (index_on session desk.old) desk.old.lists code)) result desk.new }
+fn list(session: Session, sought: Sought, code: Code, desk: &mut Desk) -> Result<Report, Refusal>
+    ensures { Listed desk.old (sought_end sought (asks (index_of session desk.old.catalogue) desk.old.lists code)) result desk.new }
 {
-    let query = [code.low, code.high];
-    let w = query_words(session);
-    let n = session.entries as usize;
-    let index = Index {
-        shape: shape_of(session),
-        stars: kept(&desk.stars, n),
-        codes: kept(&desk.codes, n * session.words as usize),
-        starts: &desk.starts,
-        ids: &desk.ids,
-    };
-    match search {
-        Search::Nearest(k) => search::nearest(
-            &index,
-            &query[..w],
-            k,
-            &mut desk.lists.marks,
-            &mut desk.lists.entries,
-            &mut desk.lists.distances,
-        ),
-        Search::Within(r) => search::within(
-            &index,
-            &query[..w],
-            r,
-            &mut desk.lists.marks,
-            &mut desk.lists.entries,
-            &mut desk.lists.distances,
-        ),
-    }
+    let index = index(session, &desk.catalogue);
+    sought.list(
+        &index,
+        words(&code),
+        &mut desk.lists.marks,
+        &mut desk.lists.entries,
+        &mut desk.lists.distances,
+    )
 }
 
 fn ask_verdict(
@@ -219,23 +194,14 @@ fn ask_verdict(
     g: u32,
     code: Code,
     desk: &mut Desk,
-    out: &mut [u8; 17408],
+    out: &mut [u8; TEXT],
     at: usize,
 ) -> usize
     requires { at ≤ 64 }
     ensures { Judging session t g code desk.old out.old at desk.new out.new result }
 {
-    let query = [code.low, code.high];
-    let w = query_words(session);
-    let n = session.entries as usize;
-    let index = Index {
-        shape: shape_of(session),
-        stars: kept(&desk.stars, n),
-        codes: kept(&desk.codes, n * session.words as usize),
-        starts: &desk.starts,
-        ids: &desk.ids,
-    };
-    let judged = search::verdict(&index, &query[..w], t, g, &mut desk.lists.marks);
+    let index = index(session, &desk.catalogue);
+    let judged = search::verdict(&index, words(&code), t, g, &mut desk.lists.marks);
     lines::put_judged(out, at, session.number(), judged)
 }
 
@@ -244,20 +210,34 @@ fn ask_sky(
     unit: Unit,
     n: usize,
     s: &[u8],
-    out: &mut [u8; 17408],
+    out: &mut [u8; TEXT],
     at: usize,
 ) -> usize
-    requires { (at ≤ 64) × (n ≤ 512) × (5 + 16 * n ≤ length s.now) }
+    requires { (at ≤ 64) × (n ≤ ENTRIES) × (5 + 16 * n ≤ length s.now) }
     ensures { Put 64 out.old at (sky_line (number_of session) (sky_answer unit (across_of s.now n) (up_of s.now n))) out.new result }
 {
-    let mut across = [0.0; 512];
-    let mut up = [0.0; 512];
+    let mut across = [0.0; ENTRIES];
+    let mut up = [0.0; ENTRIES];
     reading::read_offsets(s, n, &mut across, &mut up);
     let sky = sky::code(unit, &across[..n], &up[..n]);
     lines::put_sky(out, at, session.number(), sky)
 }
 
 // ---- the catalogue: the places that entries have filled, and its shape
+
+// The catalogue with its tables.
+fn index(session: Session, catalogue: &Catalogue) -> Index<'_>
+    ensures { result ≡ index_of session catalogue.now }
+{
+    let n = session.entries as usize;
+    Index {
+        shape: shape_of(session),
+        stars: kept(&catalogue.stars, n),
+        codes: kept(&catalogue.codes, n * session.words as usize),
+        starts: &catalogue.starts,
+        ids: &catalogue.ids,
+    }
+}
 
 // Two numbers of a session, which need not be a listed shape.
 fn shape_of(session: Session) -> Shape
@@ -276,9 +256,12 @@ fn kept<T>(list: &[T], n: usize) -> &[T]
     &list[..n.min(list.len())]
 }
 
-// How many words a query has.
-fn query_words(session: Session) -> usize
-    ensures { result ≡ cond (eqb session.words 2) 2 1 }
+// The words of a code. No method of `Code`: a public function's statement determines its result, and no clause says where a slice lies.
+fn words(code: &Code) -> &[u64]
+    ensures { (result.now ≡ words_of code.now) × (length result.now ≤ 2) }
 {
-    if session.words == 2 { 2 } else { 1 }
+    match code {
+        Code::One(words) => words,
+        Code::Two(words) => words,
+    }
 }

@@ -3,19 +3,20 @@ use Rattle.std.specs.Prelude.{Result, Ok, Err}
 use Rattle.scope.specs.declared.Report.{Report}
 use mathlib.Core.Path.{◌≡◌, refl, sym, ap, ap₂, ◌∙◌}
 use mathlib.Core.Logic.{⊎_elim}
-use mathlib.Core.Bool.{Bool, true, false, ◌&&◌, cond}
+use mathlib.Core.Bool.{Bool, true, false, ◌&&◌, cond, and-false}
 use mathlib.Core.List.{List, [], ◌∷◌, map}
-use Prim.Native.Nat.{ℕ, min, ◌+◌, ◌*◌, ◌≤◌, ◌<◌}
-use native.Mathlib.Nat.{min-eq_left}
+use Prim.Native.Nat.{ℕ, min, ◌+◌, ◌*◌, ◌/◌, ◌≤◌, ◌<◌}
+use native.Mathlib.Nat.{min-eq_left, min-eq_right}
 use native.Mathlib.Omega.{arith}
 use lib.Dec.{eqb, ltb}
-use lib.ListN.{length, take, length-take, get_or-eq_default}
+use lib.ListN.{length, take, length-take, get_or-eq_default, replicate}
 use lib.Seq.{get_or-take, length-take-le}
-use borrow.Author.Tests.{lt-ltb, le-ltb}
-use Rattle.theory.specs.Lists.{tab, over, padded}
-use Rattle.theory.proofs.Tests.{lt-or-le}
-use Rattle.theory.proofs.Lists.{is_tab, length-padded, padded-take, length_over, over-padded, map-take}
-use Rattle.theory.proofs.Counting.{count-le, count_cong}
+use Rattle.std.proofs.lemmas.List.{length-replicate, get_or-replicate}
+use Rattle.theory.specs.Lists.{tab, upto, ranked, padded}
+use Rattle.theory.proofs.Tests.{either, lt-or-le}
+use Rattle.theory.proofs.Lists.{cat_cong, is_tab, padded-take, over-padded, map-take}
+use Rattle.theory.proofs.Parts.{in_parts}
+use Rattle.theory.proofs.Counting.{count-le, count_cong, upto_gap}
 use Rattle.theory.proofs.Order.{ranked_cong, first-near}
 use Rattle.theory.proofs.Placing.{length-ranked}
 use Rattle.scope.specs.declared.Refusal.{Refusal}
@@ -26,62 +27,72 @@ use Rattle.scope.specs.Tables.{Index, n, bad}
 use Rattle.scope.specs.Walk.{Question, distance_of, opened, tested}
 use Rattle.scope.specs.Search.{K, nearest_steps, answers, nearest, within_steps, within}
 use Rattle.scope.specs.Refusals.{refusal, of_found, changes, met, too_many, unless, mark_words}
-use Rattle.scope.specs.Calls.{asked, report, SearchEnd, leaves, search_end}
+use Rattle.scope.specs.Calls.{asked, room, report, leaves, search_end}
 use Rattle.scope.proofs.Rows.{unless-append, unless-none}
-use Rattle.scope.proofs.Shapes.{facts}
 use Rattle.scope.proofs.Ends.{written, wiped, end_is}
 use Rattle.codes.specs.Marks.{is_marked}
 use Rattle.scope.proofs.Walking.{all-within}
-use Rattle.codes.proofs.Marks.{is_marked-zero, is_marked-clear}
-use Rattle.ranking.specs.Rank.{Rankable}
+use Rattle.codes.proofs.Marks.{is_marked-zero}
+use Rattle.ranking.specs.Rank.{Rankable, Ranked}
 use Rattle.walk.specs.declared.Aim.TheVariants as aim
 use Rattle.walk.specs.declared.Walk.{Walk}
 use Rattle.walk.specs.Asked.{Asked}
-use Rattle.walk.specs.Steps.{Met, met_in, Fresh, Ended}
+use Rattle.walk.specs.Steps.{met_in, Fresh, Ended, Walked}
 use Rattle.walk.proofs.Opening.{not_both, walk_clear, walk_refused}
-use Rattle.search.specs.Listed.{Listable}
+use Rattle.search.specs.Listed.{Listable, listed, Cut}
 use Rattle.search.specs.Past.{nearest_found, nearest_past, within_found, within_past}
 
--- ---- before the walk: marks cleared, a tally of zeros
+-- ---- before the walk: marks of no entry, a tally of zeros
 
-pub fresh : (words : ℕ) (old marks tally : List ℕ) → length old ≡ words → marks ≡ over (padded words []) old → tally ≡ tab (λ _. 0) 257 → Fresh words marks tally
-fresh words old marks tally e m t =
-    rw m
-    (record {
-      long = length_over (padded words []) old (rw length-padded (omega arith)) ∙ e;
+pub fresh : {words : ℕ} {marks tally : List ℕ} → marks ≡ replicate words 0 → tally ≡ tab (λ _. 0) 257 → Fresh words marks tally
+fresh {words} {marks} m t =
+    let long = ap length m ∙ length-replicate words 0 in
+    record {
+      long = long;
       none = λ i.
-          ⊎_elim (λ (l : i < 64 * words). is_marked-clear old words i l)
-          (λ (g : 64 * words ≤ i).
-          is_marked-zero (over (padded words []) old) i
-          (get_or-eq_default (over (padded words []) old) 0 (rw (length_over (padded words []) old (rw length-padded (omega arith))) (omega arith))))
-          (lt-or-le i (64 * words));
+          is_marked-zero marks i
+          (⊎_elim (λ (l : i / 64 < words). rw m (get_or-replicate words (i / 64) 0 0 l))
+          (λ (g : words ≤ i / 64). get_or-eq_default marks 0 (omega (arith, long))) (lt-or-le (i / 64) words));
       zeros = t;
-    })
+    }
 
 -- ---- after the walk: marks, and the tally up to the limit, are as ranking asks
 
 module _ (ask : Question) (w : Walk) (marks tally : List ℕ) (e : Listable ask w marks tally) where
-  pub in_tally : w.seen.limit + 1 ≤ length tally
+  in_tally : w.seen.limit + 1 ≤ length tally
   in_tally = let whole = e.whole in let inside = e.inside in omega arith
 
-  pub rankable : Asked ask → (limit places : ℕ) (entries distances : List ℕ) → limit ≡ w.seen.limit → places ≤ length entries → places ≤ length distances
-      → Rankable ask.index.codes ask.index.shape.w (n ask.index) ask.query limit places marks (take (limit + 1) tally) entries distances
-  rankable a limit places entries distances same le ld =
-      let codes = a.lent.codes in
-      let query = a.query in
-      let long = e.long in
+  -- no entry is marked past the last
+  theirs : (p : ℕ → Bool) → upto (λ i. p i && is_marked marks i) (64 * length marks) ≡ upto (λ i. p i && is_marked marks i) (n ask.index)
+  theirs p =
+      upto_gap _ (n ask.index) (64 * length marks) (omega (arith, e.long))
+      (λ i a _. ⊎_elim (λ (y : is_marked marks i ≡ true). absurd (omega (arith, e.theirs i y)))
+      (λ (z : is_marked marks i ≡ false). rw z (and-false (p i))) (either (is_marked marks i)))
+
+  ranked_theirs : (q : ℕ) → ranked (distance_of ask) (is_marked marks) (64 * length marks) q ≡ ranked (distance_of ask) (is_marked marks) (n ask.index) q
+  unfolding ranked
+  ranked_theirs q = cat_cong _ _ q (λ d _. theirs (λ i. eqb (distance_of ask i) d))
+
+  pub rankable : Asked ask → (limit : ℕ) (entries distances : List ℕ) → limit ≡ w.seen.limit → length distances ≡ length entries
+      → Rankable ask.index.codes ask.index.shape.w ask.query limit marks (take (limit + 1) tally) entries distances
+  rankable a limit entries distances same places =
       record {
-        width = (facts ask.index.shape a.lent.known).few_words;
-        few = a.lent.few;
-        coded = omega arith;
-        asked = omega arith;
-        marked = omega arith;
-        listed = le;
-        measured = ld;
-        theirs = λ i _ m. e.theirs i m;
+        few = omega (arith, e.long, a.lent.few);
+        coded = λ i m. omega (arith, in_parts i (n ask.index) ask.index.shape.w (e.theirs i m), a.lent.codes);
+        asked = omega (arith, a.query);
+        measured = places;
         tallied =
-            is_tab _ 0 (limit + 1) _ (length-take-le (limit + 1) tally (omega (arith, in_tally))) (λ d l. get_or-take (limit + 1) tally d 0 l ∙ e.each d (omega arith));
+            is_tab _ 0 (limit + 1) _ (length-take-le (limit + 1) tally (omega (arith, in_tally)))
+            (λ d l. get_or-take (limit + 1) tally d 0 l ∙ e.each d (omega arith) ∙ sym (ap length (theirs (λ i. eqb (distance_of ask i) d))));
       }
+
+  -- ranking then lists those of the entries that are within the limit
+  pub listed_in : {P : ℕ} {marks' tally' entries distances : List ℕ}
+      → Ranked ask.index.codes ask.index.shape.w ask.query w.seen.limit marks P marks' tally' entries distances
+      → (entries ≡ padded P (answers ask (is_marked marks) w.seen.limit)) × (distances ≡ padded P (map (distance_of ask) (answers ask (is_marked marks) w.seen.limit)))
+  listed_in {P} r =
+      let same = ranked_theirs (w.seen.limit + 1) in
+      (r.listed ∙ ap (padded P) same, r.measured ∙ ap (λ (l : List ℕ). padded P (map (distance_of ask) l)) same)
 
 module _ (ask : Question) (k r N : ℕ) (marks tally : List ℕ) (w : Walk) (e : Ended ask (aim.Nearest k r) N w marks tally) where
   near_few : w.seen.near ≤ n ask.index
@@ -103,6 +114,34 @@ seven x (b ∷ l) f h = go (seven x l f) (bad x b.0 b.1) h
         → cond t (Err (BadBucket b.0 b.1)) (met_in x l) ≡ Err f → (refusal f).0 ≡ 7
     go ih true e = let same : BadBucket b.0 b.1 ≡ f = cc in ap (λ (g : Refusal). (refusal g).0) (sym same)
     go ih false e = ih e
+
+-- with lists of just the places
+module _ (ask : Question) {P : ℕ} {marks entries distances : List ℕ} (cut : Cut ask.index P marks entries distances) (l : List ℕ) where
+  -- after 7: zeros
+  wiped_in : (f : Refusal) → (refusal f).0 ≡ 7
+      → search_end (asked ask marks entries distances) (Err f) P l ≡ leaves (Err f) (padded (mark_words (n ask.index)) []) (padded P []) (padded P [])
+  wiped_in f h =
+      wiped (asked ask marks entries distances) P l f h
+      ∙ end_is refl (over-padded _ [] marks cut.marked) (over-padded P [] entries cut.listed) (over-padded P [] distances cut.measured)
+
+  -- after no refusal, or 6: the answers, which are k
+  written_in : (r : Result Report Refusal) → changes (of_found r).0 ≡ true → eqb (of_found r).0 7 ≡ false → (k : List ℕ) → padded P l ≡ padded P k
+      → padded P (map (distance_of ask) l) ≡ padded P (map (distance_of ask) k)
+      → search_end (asked ask marks entries distances) r P l
+      ≡ leaves r (padded (mark_words (n ask.index)) []) (padded P k) (padded P (map (distance_of ask) k))
+  written_in r h h' k e d =
+      written (asked ask marks entries distances) P l r h h'
+      ∙ end_is refl (over-padded _ [] marks cut.marked) (over-padded P l entries cut.listed ∙ e) (over-padded P _ distances cut.measured ∙ d)
+
+-- `list` leaves in them what a walk listed
+pub list_leaves : (ask : Question) {P : ℕ} {old olds oldd : List ℕ} → Cut ask.index P old olds oldd
+    → (walked : Result Walk Refusal) (now : List ℕ) {marks entries distances : List ℕ} → length now ≡ length old → marks ≡ padded (length now) []
+    → entries ≡ padded (length olds) (listed ask walked now) → distances ≡ padded (length olds) (map (distance_of ask) (listed ask walked now))
+    → {o o' : Result Report Refusal} → o ≡ o'
+    → leaves o marks entries distances
+    ≡ leaves o' (padded (mark_words (n ask.index)) []) (padded P (listed ask walked now)) (padded P (map (distance_of ask) (listed ask walked now)))
+list_leaves ask cut walked now long m e d answer =
+    end_is answer (rw (long, cut.marked) at m) (rw cut.listed at e) (rw cut.listed at d)
 
 -- ---- nearest
 
@@ -140,33 +179,28 @@ module _ (ask : Question) (k : ℕ) (h : k ≤ n ask.index) (w : Walk) (marks ta
       ∙ ap (min k) (all-within ask (is_marked marks) ∙ count_cong _ _ (n ask.index) (λ i _. a.marked i) ∙ sym (ap (λ (t : Tested). t.0) a.tested)) in
       λ i. record { answers = many i; opened = sym a.opened i; tested = sym a.tested i }
 
-module _ (ask : Question) (k : ℕ) (h : k ≤ n ask.index) (old entries distances : List ℕ) (long : length old ≡ mark_words (n ask.index)) where
-  abbrev bucket-met : Met
-  bucket-met = met_in ask.index (opened ask (nearest_steps ask k))
+-- what is answered after the walk
+abbrev pub found_near : ℕ → Result Walk Refusal → Result Report Refusal
+found_near k (Ok w) = Ok (record { answers = min k w.seen.tested.0; opened = w.opened; tested = w.seen.tested })
+found_near k (Err f) = Err f
 
-  pub nearest-refused : (f : Refusal) → bucket-met ≡ Err f
+module _ (ask : Question) {k : ℕ} (h : k ≤ n ask.index) {old entries distances : List ℕ} (cut : Cut ask.index k old entries distances) where
+  pub nearest_after : (walked : Result Walk Refusal) (marks tally : List ℕ) → Walked ask (aim.Nearest k (q ask.index.shape)) (nearest_steps ask k) walked marks tally
       → nearest_past (asked ask old entries distances) k
-      ≡ leaves (Err f) (padded (mark_words (n ask.index)) []) (over (padded k []) entries) (over (padded k []) distances)
+      ≡ leaves (found_near k walked) (padded (mark_words (n ask.index)) []) (padded k (listed ask walked marks)) (padded k (map (distance_of ask) (listed ask walked marks)))
   unfolding nearest_past nearest_found met_in
-  nearest-refused f m =
+  nearest_after (Err f) marks tally m =
       let l = opened ask (nearest_steps ask k) in
       rw (walk_refused Err (Ok (report ask (nearest_steps ask k) (nearest ask k))) (met ask.index l) f m, places ask k h)
-      (wiped (asked ask old entries distances) k (nearest ask k) f (seven ask.index l f m) ∙ end_is refl (over-padded _ [] old long) refl refl)
-
-  pub nearest-listed : (w : Walk) (marks tally : List ℕ) → (bucket-met ≡ Ok tt) × Ended ask (aim.Nearest k (q ask.index.shape)) (nearest_steps ask k) w marks tally
-      → nearest_past (asked ask old entries distances) k
-      ≡ leaves (Ok (record { answers = min k w.seen.tested.0; opened = w.opened; tested = w.seen.tested })) (padded (mark_words (n ask.index)) [])
-      (over (padded k (answers ask (is_marked marks) w.seen.limit)) entries)
-      (over (padded k (map (distance_of ask) (answers ask (is_marked marks) w.seen.limit))) distances)
-  unfolding nearest_past nearest_found met_in
-  nearest-listed w marks tally (e, a) =
+      (wiped_in ask cut (nearest ask k) f (seven ask.index l f m))
+  nearest_after (Ok w) marks tally (e, a) =
       let l = opened ask (nearest_steps ask k) in
+      let D = distance_of ask in
       let same : nearest ask k ≡ take k (answers ask (is_marked marks) w.seen.limit) = first_k ask k h w marks tally a ∙ up_to_limit ask k h w marks tally a in
       rw (unless-none (met ask.index l) Err (Ok (report ask (nearest_steps ask k) (nearest ask k))) (walk_clear (met ask.index l) e), places ask k h)
-      (written (asked ask old entries distances) k (nearest ask k) (Ok (report ask (nearest_steps ask k) (nearest ask k))) refl refl
-      ∙ end_is (ap Ok (report_is ask k h w marks tally a)) (over-padded _ [] old long)
-      (ap (λ (r : List ℕ). over r entries) (ap (padded k) same ∙ padded-take k _))
-      (ap (λ (r : List ℕ). over r distances) (ap (λ (r : List ℕ). padded k (map (distance_of ask) r)) same ∙ ap (padded k) (map-take (distance_of ask) k _) ∙ padded-take k _)))
+      (written_in ask cut (nearest ask k) (Ok (report ask (nearest_steps ask k) (nearest ask k))) refl refl _
+      (ap (padded k) same ∙ padded-take k _) (ap (λ (r : List ℕ). padded k (map D r)) same ∙ ap (padded k) (map-take D k _) ∙ padded-take k _)
+      ∙ end_is (ap Ok (report_is ask k h w marks tally a)) refl refl refl)
 
 -- ---- within
 
@@ -192,56 +226,49 @@ module _ (ask : Question) (r : ℕ) (few : n ask.index ≤ 65536) (w : Walk) (ma
   unfolding report
   report-within a = λ i. record { answers = near_is a i; opened = sym a.opened i; tested = sym a.tested i }
 
-module _ (ask : Question) (r : ℕ) (few : n ask.index ≤ 65536) (old entries distances : List ℕ) (long : length old ≡ mark_words (n ask.index)) (room P : ℕ)
-    (e₁ : room ≡ min (length entries) (length distances)) (e₂ : P ≡ min (n ask.index) room) where
-  abbrev N : ℕ
-  N = within_steps ask.index r
+-- what is answered after the walk, with P places
+abbrev pub found_within : ℕ → Result Walk Refusal → Result Report Refusal
+found_within P (Ok w) = cond (ltb P w.seen.near) (Err (TooMany w.seen.near)) (Ok (record { answers = w.seen.near; opened = w.opened; tested = w.seen.tested }))
+found_within P (Err f) = Err f
 
-  pub within-refused : (f : Refusal) → met_in ask.index (opened ask N) ≡ Err f
+-- written, whether the answers fit or not
+not_seven : (P T : ℕ) (y : Report) → let o = cond (ltb P T) (Err (TooMany T)) (Ok y) in (changes (of_found o).0 ≡ true) × (eqb (of_found o).0 7 ≡ false)
+not_seven P T y = go (ltb P T)
+  where
+    go : (b : Bool) → let o = cond b (Err (TooMany T)) (Ok y) in (changes (of_found o).0 ≡ true) × (eqb (of_found o).0 7 ≡ false)
+    go true = (refl, refl)
+    go false = (refl, refl)
+
+module _ (ask : Question) (r : ℕ) (few : n ask.index ≤ 65536) {P : ℕ} (some : P ≤ n ask.index) {old entries distances : List ℕ}
+    (cut : Cut ask.index P old entries distances) where
+  room_is : room (asked ask old entries distances) ≡ P
+  room_is = omega (arith, cut.listed, cut.measured)
+
+  pub within_after : (walked : Result Walk Refusal) (marks tally : List ℕ) → Walked ask (aim.Nearest 65537 r) (within_steps ask.index r) walked marks tally
       → within_past (asked ask old entries distances) r
-      ≡ leaves (Err f) (padded (mark_words (n ask.index)) []) (over (padded P []) entries) (over (padded P []) distances)
-  unfolding within_past within_found met_in
-  within-refused f m =
+      ≡ leaves (found_within P walked) (padded (mark_words (n ask.index)) []) (padded P (listed ask walked marks)) (padded P (map (distance_of ask) (listed ask walked marks)))
+  unfolding within_past within_found met_in unless
+  within_after (Err f) marks tally m =
+      let N = within_steps ask.index r in
       let l = opened ask N in
       rw (
-        ← e₁,
-        ← e₂,
-        unless-append (met ask.index l) (too_many (length (within ask r)) room) Err (Ok (report ask N (within ask r))),
-        walk_refused Err (unless (too_many (length (within ask r)) room) Err (Ok (report ask N (within ask r)))) (met ask.index l) f m,
+        room_is,
+        min-eq_right some,
+        unless-append (met ask.index l) (too_many (length (within ask r)) P) Err (Ok (report ask N (within ask r))),
+        walk_refused Err (unless (too_many (length (within ask r)) P) Err (Ok (report ask N (within ask r)))) (met ask.index l) f m,
       )
-      (wiped (asked ask old entries distances) P (within ask r) f (seven ask.index l f m) ∙ end_is refl (over-padded _ [] old long) refl refl)
-
-  module _ (w : Walk) (marks tally : List ℕ) (walked : (met_in ask.index (opened ask N) ≡ Ok tt) × Ended ask (aim.Nearest 65537 r) N w marks tally) where
-    -- what stands in the lists if no bad bucket was met, whether the answers fit or not
-    abbrev lists : Result Report Refusal → SearchEnd
-    lists o =
-        leaves o (padded (mark_words (n ask.index)) []) (over (padded P (answers ask (is_marked marks) w.seen.limit)) entries)
-        (over (padded P (map (distance_of ask) (answers ask (is_marked marks) w.seen.limit))) distances)
-
-    rows_past : within_found (asked ask old entries distances) r ≡ unless (too_many (length (within ask r)) room) Err (Ok (report ask N (within ask r)))
-    unfolding within_found met_in
-    rows_past =
-        rw (← e₁) (unless-append (met ask.index (opened ask N)) (too_many (length (within ask r)) room) Err _
-        ∙ unless-none (met ask.index (opened ask N)) Err _ (walk_clear (met ask.index (opened ask N)) walked.0))
-
-    lists_are : (o : Result Report Refusal) → changes (of_found o).0 ≡ true → eqb (of_found o).0 7 ≡ false
-        → search_end (asked ask old entries distances) o P (within ask r) ≡ lists o
-    lists_are o h k =
-        let same = all ask r few w marks tally walked.1 in
-        written (asked ask old entries distances) P (within ask r) o h k
-        ∙ end_is refl (over-padded _ [] old long) (ap (λ (l : List ℕ). over (padded P l) entries) same)
-        (ap (λ (l : List ℕ). over (padded P (map (distance_of ask) l)) distances) same)
-
-    pub within_many : room < w.seen.near → within_past (asked ask old entries distances) r ≡ lists (Err (TooMany w.seen.near))
-    unfolding within_past unless
-    within_many l =
-        let T = near_is ask r few w marks tally walked.1 in
-        rw (rows_past, ← e₁, ← e₂, T, lt-ltb room w.seen.near l) (lists_are (Err (TooMany w.seen.near)) refl refl)
-
-    pub within-listed : w.seen.near ≤ room
-        → within_past (asked ask old entries distances) r ≡ lists (Ok (record { answers = w.seen.near; opened = w.opened; tested = w.seen.tested }))
-    unfolding within_past unless
-    within-listed l =
-        let T = near_is ask r few w marks tally walked.1 in
-        let R = report-within ask r few w marks tally walked.1 in
-        rw (rows_past, ← e₁, ← e₂, T, le-ltb room w.seen.near l, R) (lists_are (Ok (record { answers = w.seen.near; opened = w.opened; tested = w.seen.tested })) refl refl)
+      (wiped_in ask cut (within ask r) f (seven ask.index l f m))
+  within_after (Ok w) marks tally (e, a) =
+      let N = within_steps ask.index r in
+      let l = opened ask N in
+      let same = all ask r few w marks tally a in
+      let (changed, zeros) = not_seven P w.seen.near (record { answers = w.seen.near; opened = w.opened; tested = w.seen.tested }) in
+      rw (
+        room_is,
+        min-eq_right some,
+        unless-append (met ask.index l) (too_many (length (within ask r)) P) Err (Ok (report ask N (within ask r))),
+        unless-none (met ask.index l) Err (unless (too_many (length (within ask r)) P) Err (Ok (report ask N (within ask r)))) (walk_clear (met ask.index l) e),
+        report-within ask r few w marks tally a,
+        near_is ask r few w marks tally a,
+      )
+      (written_in ask cut (within ask r) (found_within P (Ok w)) changed zeros _ (ap (padded P) same) (ap (λ (l : List ℕ). padded P (map (distance_of ask) l)) same))

@@ -1,11 +1,9 @@
 -- Refusals 1 to 5 in order, and what holds once none of them fits. Assumes nothing.
-use Rattle.std.specs.Int.{div_ceil}
 use Rattle.std.specs.Prelude.{⊤, Result, Ok, Err}
 use mathlib.Core.Path.{◌≡◌, refl, sym, ap, ◌∙◌}
 use mathlib.Core.Bool.{Bool, true, false, not}
 use mathlib.Core.List.{List, [], ◌∷◌, ◌++◌}
 use Prim.Native.Nat.{ℕ, ◌≤◌}
-use native.Mathlib.Omega.{arith}
 use lib.Dec.{eqb, ltb}
 use lib.ListN.{length}
 use borrow.Author.Tests.{ltb-false}
@@ -18,6 +16,7 @@ use Rattle.scope.specs.Tables.{Index, n}
 use Rattle.scope.specs.Walk.{Question, question}
 use Rattle.scope.specs.Refusals.{Rows, refusal, changes, unless, one_to_three, wrong_query, above, few_marks, one_to_five, mark_words, allowed}
 use Rattle.scope.proofs.Rows.{one_fits, unless-append, unless-none, unless_past, all-clear, one_refuses, not-refused}
+use Rattle.walk.proofs.Asked.{of_asked}
 
 -- ---- by the outcome of a function that gives refusals
 
@@ -79,39 +78,40 @@ module _ (x : Index) (query limits marks : List ℕ) {A : Type 0} (refused : Ref
         → unless (one_to_five x query limits marks) refused answer ≡ unless (above x.shape limits ++ few_marks x marks) refused answer
     past_four h = past_three three ∙ unless_past (wrong_query x.shape query) (above x.shape limits ++ few_marks x marks) refused answer h
 
--- the same of a question that was accepted
-module _ (x : Index) (query limits marks : List ℕ) where
-  abbrev rows : Rows
-  rows = one_to_five x query limits marks
+-- the same of a question that was not accepted
+pub not_accepted : (x : Index) (query limits marks : List ℕ) {f : Refusal}
+    → ◌≡◌ {A = Result Question Refusal} (Err f) (unless (one_to_five x query limits marks) Err (Ok (question x query)))
+    → allowed (one_to_five x query limits marks) ≡ Err f
+not_accepted x query limits marks e = refuses (question x query) (one_to_five x query limits marks) e Err (Ok tt)
 
-  pub not_accepted : {f : Refusal} → ◌≡◌ {A = Result Question Refusal} (Err f) (unless rows Err (Ok (question x query))) → allowed rows ≡ Err f
-  not_accepted e = refuses (question x query) rows e Err (Ok tt)
+-- ---- what holds once none of them fits
 
-  pub accepted : {ask : Question} → ◌≡◌ {A = Result Question Refusal} (Ok ask) (unless rows Err (Ok (question x query))) → (allowed rows ≡ Ok tt) × (ask ≡ question x query)
-  accepted e = let (none, is) = given rows e in (unless-none rows Err (Ok tt) none, is)
+-- none of 1 to 5 fits, but for the answer lists: the question in hand is the one that is asked, and w words of marks are all that it needs, and lent
+pub record Fit (x : Index) (query limits marks : List ℕ) (ask : Question) (w : ℕ) : Type 0 where
+  pub is : ask ≡ question x query
+  pub none : allowed (one_to_five x query limits marks) ≡ Ok tt
+  pub limited : any (λ r. ltb (q x.shape) r) limits ≡ false
+  pub room : mark_words (n x) ≤ length marks
+  pub words : w ≡ mark_words (n x)
+  pub lent : w ≤ length marks
 
--- the words for n entries, as the code counts them
-pub words_are : (k m w : ℕ) → k ≡ m → w ≡ div_ceil k 64 → w ≡ mark_words m
-words_are k m w e is = omega arith
-
--- ---- what holds then
-
--- none of 1 to 5 fits, but for the answer lists
-pub record Fit (ask : Question) (limits marks : List ℕ) : Type 0 where
-  pub none : one_fits (one_to_five ask.index ask.query limits marks) ≡ false
-  pub limited : any (λ r. ltb (q ask.index.shape) r) limits ≡ false
-  pub room : mark_words (n ask.index) ≤ length marks
-
-pub fit : (ask : Question) (limits marks : List ℕ) → allowed (one_to_five ask.index ask.query limits marks) ≡ Ok tt → Fit ask limits marks
+pub accepted : (x : Index) (query limits marks : List ℕ) {ask inside : Question} {w : ℕ}
+    → ◌≡◌ {A = Result Question Refusal} (Ok ask) (unless (one_to_five x query limits marks) Err (Ok (question x query)))
+    → inside ≡ ask → w ≡ mark_words (n inside.index) → Fit x query limits marks ask w
 unfolding any
-fit ask limits marks h =
-    let x = ask.index in
-    let none = none_fits (one_to_five x ask.query limits marks) h in
-    let both = sym (any_append (λ (row : Bool × Refusal). row.0) (one_to_three x) (four_and_five x ask.query limits marks)) ∙ none in
+accepted x query limits marks e inside long =
+    let rows = one_to_five x query limits marks in
+    let (none, is) = given rows e in
+    let both = sym (any_append (λ (row : Bool × Refusal). row.0) (one_to_three x) (four_and_five x query limits marks)) ∙ none in
     let four = or-false_right (one_fits (one_to_three x)) _ both in
-    let five = or-false_right (not (eqb (length ask.query) x.shape.w)) _ four in
+    let five = or-false_right (not (eqb (length query) x.shape.w)) _ four in
+    let room = ltb-false _ _ (or-false_left _ _ (or-false_right (any (λ r. ltb (q x.shape) r) limits) _ five)) in
+    let words = rw is at (of_asked (λ x. mark_words (n x)) inside long) in
     record {
-      none = none;
+      is = is;
+      none = unless-none rows Err (Ok tt) none;
       limited = or-false_left (any (λ r. ltb (q x.shape) r) limits) _ five;
-      room = ltb-false _ _ (or-false_left _ _ (or-false_right (any (λ r. ltb (q x.shape) r) limits) _ five));
+      room = room;
+      words = words;
+      lent = rw words room;
     }

@@ -52,19 +52,19 @@ module _ (star dist : ℕ → ℕ) (test : ℕ → Bool) (few : (i : ℕ) → te
   its : (x i : ℕ) → test i ≡ true → x ≡ standing dist i → Its dist x i
   its x i h e = record { is = e; few = few i h; somebody = omega (arith, few i h, low i h) }
 
-  first_is : (a : ℕ) → Foremost star dist test a → (r.first ≡ standing dist a) × (star a ≡ r.star)
+  first_is : (a : ℕ) → Foremost star dist test a → (r.first.0 ≡ standing dist a) × (star a ≡ r.star)
   first_is a f =
-      ⊎_elim (λ (e : r.first ≡ nobody). absurd (omega (arith, b.first a f.passes, (its (standing dist a) a f.passes refl).somebody)))
+      ⊎_elim (λ (e : r.first.0 ≡ nobody). absurd (omega (arith, b.first a f.passes, (its (standing dist a) a f.passes refl).somebody)))
       (λ w.
       ⊎_elim (λ (e : w.0 ≡ a). (w.2 ∙ ap (standing dist) e, sym (ap star e) ∙ w.3))
       (λ (ne : w.0 ≡ a → ⊥). absurd (omega (arith, lower a w.0 f.passes (f.before w.0 w.1 ne), w.2, b.first a f.passes))) (eq-or_ne w.0 a))
       b.whose
 
   other_is : (a c : ℕ) → star a ≡ r.star → (star c ≡ star a → ⊥) → test c ≡ true
-      → ((j : ℕ) → test j ≡ true → (star j ≡ star a → ⊥) → (j ≡ c → ⊥) → Before dist c j) → r.other ≡ standing dist c
+      → ((j : ℕ) → test j ≡ true → (star j ≡ star a → ⊥) → (j ≡ c → ⊥) → Before dist c j) → r.other.0 ≡ standing dist c
   other_is a c s ne m before =
       let least = b.other c m (λ p. ne (p ∙ sym s)) in
-      ⊎_elim (λ (e : r.other ≡ nobody). absurd (omega (arith, (its (standing dist c) c m refl).somebody)))
+      ⊎_elim (λ (e : r.other.0 ≡ nobody). absurd (omega (arith, (its (standing dist c) c m refl).somebody)))
       (λ w.
       ⊎_elim (λ (e : w.0 ≡ c). w.2 ∙ ap (standing dist) e)
       (λ (n : w.0 ≡ c → ⊥). absurd (omega (arith, lower c w.0 m (before w.0 w.1 (λ p. w.3 (p ∙ s)) n), w.2))) (eq-or_ne w.0 c))
@@ -74,10 +74,10 @@ module _ (star dist : ℕ → ℕ) (test : ℕ → Bool) (few : (i : ℕ) → te
   stand l (Told.nobody e none) = rw e (⊎_elim (λ x. x) (λ w. both_ways (sym w.1 ∙ none w.0)) b.whose)
   stand l (Told.someone a k e f (Runner.missing h same)) =
       let (first, s) = first_is a f in
-      rw (e, h) (its r.first a f.passes first, s, ⊎_elim (λ x. x) (λ w. absurd (w.3 (same w.0 w.1 ∙ s))) b.another)
+      rw (e, h) (its r.first.0 a f.passes first, s, ⊎_elim (λ x. x) (λ w. absurd (w.3 (same w.0 w.1 ∙ s))) b.another)
   stand l (Told.someone a k e f (Runner.there c h ne m before)) =
       let (first, s) = first_is a f in
-      rw (e, h) (its r.first a f.passes first, s, its r.other c m (other_is a c s ne m before))
+      rw (e, h) (its r.first.0 a f.passes first, s, its r.other.0 c m (other_is a c s ne m before))
 
 -- ---- after the walk
 

@@ -7,8 +7,8 @@ use Rattle.walk.specs.Rivals.{standing, nobody}
 
 -- the runner-up stands behind the first, and is an entry of the catalogue
 pub record Judgeable (stars : List ℕ) (r : Rivals) : Type 0 where
-  pub order : r.first ≤ r.other
-  pub entry : (r.other ≡ nobody → ⊥) → r.other % 65536 < length stars
+  pub order : r.first.0 ≤ r.other.0
+  pub entry : (r.other.0 ≡ nobody → ⊥) → r.other.0 % 65536 < length stars
 
 -- x is the standing of entry i
 pub record Its (dist : ℕ → ℕ) (x i : ℕ) : Type 0 where
@@ -18,9 +18,9 @@ pub record Its (dist : ℕ → ℕ) (x i : ℕ) : Type 0 where
 
 -- r holds the first and the runner-up of a list, or nobody
 abbrev pub Stand : (star dist : ℕ → ℕ) → Rivals → List ℕ → Type 0
-Stand star dist r [] = r.first ≡ nobody
-Stand star dist r (a ∷ []) = Its dist r.first a × (star a ≡ r.star) × (r.other ≡ nobody)
-Stand star dist r (a ∷ b ∷ l) = Its dist r.first a × (star a ≡ r.star) × Its dist r.other b
+Stand star dist r [] = r.first.0 ≡ nobody
+Stand star dist r (a ∷ []) = Its dist r.first.0 a × (star a ≡ r.star) × (r.other.0 ≡ nobody)
+Stand star dist r (a ∷ b ∷ l) = Its dist r.first.0 a × (star a ≡ r.star) × Its dist r.other.0 b
 
 -- v is the verdict on every such list
 abbrev pub Says : (star : ℕ → ℕ) (t g : ℕ) → Rivals → Verdict → Type 0

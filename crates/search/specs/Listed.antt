@@ -1,8 +1,8 @@
--- What a walk leaves to be listed. Assumes nothing.
+-- What a walk leaves to be listed, and the places for it. Assumes nothing.
 use Rattle.std.specs.Prelude.{◌≡◌, Result, Ok, Err, true, ◌&&◌, List, [], ℕ, ◌≤◌, ◌<◌, eqb, length, get_or}
 use Rattle.theory.specs.Lists.{count}
 use Rattle.scope.specs.declared.Refusal.{Refusal}
-use Rattle.scope.specs.Tables.{n}
+use Rattle.scope.specs.Tables.{Index, n}
 use Rattle.scope.specs.Walk.{Question, distance_of}
 use Rattle.scope.specs.Search.{answers}
 use Rattle.scope.specs.Refusals.{mark_words}
@@ -21,3 +21,9 @@ pub record Listable (ask : Question) (w : Walk) (marks tally : List ℕ) : Type 
 abbrev pub listed : Question → Result Walk Refusal → List ℕ → List ℕ
 listed ask (Ok w) marks = answers ask (is_marked marks) w.seen.limit
 listed ask (Err f) marks = []
+
+-- the lists of a search are just what it fills: the marks of all entries, and P places for answers
+pub record Cut (x : Index) (P : ℕ) (marks entries distances : List ℕ) : Type 0 where
+  pub marked : length marks ≡ mark_words (n x)
+  pub listed : length entries ≡ P
+  pub measured : length distances ≡ P

@@ -2,19 +2,21 @@
 #![tactic(auto)]
 
 ghost use Rattle.std.specs.Prelude.{◌≡◌, Ok, Err, IfOk, [], ◌∷◌, ℕ, ◌≤◌, length, get_or, map};
-ghost use Rattle.theory.specs.Lists.{over, padded};
+ghost use Rattle.theory.specs.Lists.{padded};
 ghost use Rattle.scope.specs.Shape.{q};
 ghost use Rattle.scope.specs.Tables.{n};
 ghost use Rattle.scope.specs.Walk.{question, distance_of};
 ghost use Rattle.scope.specs.Refusals.{unless, one_to_five, mark_words};
 ghost use Rattle.scope.specs.Calls.{asked, leaves, nearest_end, within_end, judges, verdict_end};
+ghost use Rattle.walk.specs.Steps.{Fresh};
 ghost use Rattle.search.specs.Judge.{Judgeable, Says};
-ghost use Rattle.search.specs.Listed.{Listable, listed};
+ghost use Rattle.search.specs.Listed.{Listable, listed, Cut};
+ghost use Rattle.search.specs.Sought.{sought_end};
 ghost use Rattle.search.specs.Past.{nearest_past, within_past, verdict_found};
 
 use scope::{Index, Refusal, Report, Verdict, VerdictReport};
 use shapes::Accepted;
-use walk::{ENTRIES, NOBODY, Question, Rivals, Walk};
+use walk::{Question, Rivals, Standing, Walk};
 
 // Refusals 1 to 5, but for the answer lists; of several limits the largest decides.
 fn accept<'a>(
@@ -31,71 +33,58 @@ fn accept<'a>(
     if index.shape.q() < limit {
         return Err(Refusal::Query);
     }
-    if marks.len() < index.entries().div_ceil(64) {
+    if marks.len() < index.mark_words() {
         return Err(Refusal::Room);
     }
     Ok(ask)
 }
 
-// Writes zeros to the first places of both answer lists, and to all of the marks. The places behind stay, and so their number stands beside the lists.
-fn wipe(places: usize, marks: &mut [u64], entries: &mut [u32], distances: &mut [u32])
-    requires { (places ≤ length entries.old) × (places ≤ length distances.old) }
-    ensures marks_after { marks.new ≡ padded (length marks.old) [] }
-    ensures entries_after { entries.new ≡ over (padded places []) entries.old }
-    ensures distances_after { distances.new ≡ over (padded places []) distances.old }
+// How each walk begins: with marks of no entry, and a tally of none. The walk itself is each search's own, since it promises steps of its own.
+fn fresh(marks: &mut [u64]) -> [u32; 257]
+    ensures { Fresh (length marks.old) marks.new result }
 {
-    let words = marks.len();
-    codes::clear(marks, words);
-    codes::clear(entries, places);
-    codes::clear(distances, places);
+    marks.fill(0);
+    [0; 257]
 }
 
 // After a walk: lists the marked entries within its limit, as many as there are places, and clears the marks; or zeros, where it met a bad bucket.
 fn list(
     ask: &Question<'_>,
     walked: Result<Walk, Refusal>,
-    places: usize,
     marks: &mut [u64],
     tally: &mut [u32],
     entries: &mut [u32],
     distances: &mut [u32],
 ) -> Result<Walk, Refusal>
-    requires places_in_bounds { (places ≤ length entries.old) × (places ≤ length distances.old) }
+    requires places { length distances.old ≡ length entries.old }
     requires listable { IfOk walked (λ w. Listable ask.now w marks.old tally.old) }
     ensures same { result ≡ walked }
     ensures marks_after { marks.new ≡ padded (length marks.old) [] }
-    ensures entries_after { entries.new ≡ over (padded places (listed ask.now walked marks.old)) entries.old }
-    ensures distances_after { distances.new ≡ over (padded places (map (distance_of ask.now) (listed ask.now walked marks.old))) distances.old }
+    ensures entries_after { entries.new ≡ padded (length entries.old) (listed ask.now walked marks.old) }
+    ensures distances_after { distances.new ≡ padded (length entries.old) (map (distance_of ask.now) (listed ask.now walked marks.old)) }
 {
     let w = match walked {
         Ok(w) => w,
         Err(refusal) => {
-            wipe(places, marks, entries, distances);
+            marks.fill(0);
+            entries.fill(0);
+            distances.fill(0);
             return Err(refusal);
         }
     };
     let index = &ask.index;
     let limit = w.seen.limit;
-    let end = limit as usize + 1;
     let asked = ranking::Asked {
-        codes: index.codes,
-        w: index.shape.words(),
+        codes: index.codes(),
         query: ask.query,
         limit,
     };
-    ranking::rank(
-        asked,
-        index.entries(),
-        places,
-        marks,
-        &mut tally[..end],
-        entries,
-        distances,
-    );
+    let end = limit as usize + 1;
+    ranking::rank(asked, marks, &mut tally[..end], entries, distances);
     Ok(w)
 }
 
-// Lists the k nearest entries, where none of refusals 1 to 5 fits. The marks are the words that n entries need.
+// Lists the k nearest entries, where none of refusals 1 to 5 fits, in lists of just the places that it fills.
 fn list_nearest(
     ask: &Question<'_>,
     k: u32,
@@ -103,16 +92,13 @@ fn list_nearest(
     entries: &mut [u32],
     distances: &mut [u32],
 ) -> Result<Report, Refusal>
-    requires k_in_bounds { (k ≤ n ask.now.index) × (k ≤ length entries.old) × (k ≤ length distances.old) }
-    requires marks_len { length marks.old ≡ mark_words (n ask.now.index) }
+    requires k_in_bounds { k ≤ n ask.now.index }
+    requires cut { Cut ask.now.index k marks.old entries.old distances.old }
     ensures { leaves result marks.new entries.new distances.new ≡ nearest_past (asked ask.now marks.old entries.old distances.old) k }
 {
-    let words = marks.len();
-    codes::clear(marks, words);
-    let mut tally = [0u32; 257];
+    let mut tally = fresh(marks);
     let walked = walk::nearest(ask, k, marks, &mut tally);
-    let places = k as usize;
-    let w = list(ask, walked, places, marks, &mut tally, entries, distances)?;
+    let w = list(ask, walked, marks, &mut tally, entries, distances)?;
     Ok(Report {
         answers: k.min(w.seen.tested.0),
         opened: w.opened,
@@ -120,7 +106,7 @@ fn list_nearest(
     })
 }
 
-// Lists the entries within r, as many as both lists hold, where none of refusals 1 to 5 fits. Marks as above.
+// Lists the entries within r, as many as there are places, where none of refusals 1 to 5 fits. The lists as above, with no more places than entries.
 fn list_within(
     ask: &Question<'_>,
     r: u32,
@@ -128,20 +114,15 @@ fn list_within(
     entries: &mut [u32],
     distances: &mut [u32],
 ) -> Result<Report, Refusal>
-    requires r_bound { r ≤ q ask.now.index.shape }
-    requires marks_len { length marks.old ≡ mark_words (n ask.now.index) }
+    requires bounds { (r ≤ q ask.now.index.shape) × (length entries.old ≤ n ask.now.index) × (n ask.now.index ≤ 65536) }
+    requires cut { Cut ask.now.index (length entries.old) marks.old entries.old distances.old }
     ensures { leaves result marks.new entries.new distances.new ≡ within_past (asked ask.now marks.old entries.old distances.old) r }
 {
-    let index = &ask.index;
-    let shorter = entries.len().min(distances.len());
-    let places = shorter.min(index.entries());
-    let words = marks.len();
-    codes::clear(marks, words);
-    let mut tally = [0u32; 257];
+    let mut tally = fresh(marks);
     let walked = walk::within(ask, r, marks, &mut tally);
-    let w = list(ask, walked, places, marks, &mut tally, entries, distances)?;
+    let w = list(ask, walked, marks, &mut tally, entries, distances)?;
     let answers = w.seen.near;
-    if shorter < answers as usize {
+    if entries.len() < answers as usize {
         return Err(Refusal::TooMany(answers));
     }
     Ok(Report {
@@ -163,13 +144,20 @@ pub fn nearest<'a>(
     ensures { leaves result marks.new entries.new distances.new ≡ nearest_end (asked (question index.now query.now) marks.old entries.old distances.old) k }
 {
     let ask = accept(index, query, 0, marks)?;
+    let words = ask.index.mark_words();
     let n = ask.index.entries();
     let k = k.min(n as u32);
-    if entries.len().min(distances.len()) < k as usize {
+    let places = k as usize;
+    if entries.len().min(distances.len()) < places {
         return Err(Refusal::Room);
     }
-    let words = n.div_ceil(64);
-    list_nearest(&ask, k, &mut marks[..words], entries, distances)
+    list_nearest(
+        &ask,
+        k,
+        &mut marks[..words],
+        &mut entries[..places],
+        &mut distances[..places],
+    )
 }
 
 // All entries within r of the query, by distance and then by number.
@@ -184,8 +172,42 @@ pub fn within<'a>(
     ensures { leaves result marks.new entries.new distances.new ≡ within_end (asked (question index.now query.now) marks.old entries.old distances.old) r }
 {
     let ask = accept(index, query, r, marks)?;
-    let words = ask.index.entries().div_ceil(64);
-    list_within(&ask, r, &mut marks[..words], entries, distances)
+    let words = ask.index.mark_words();
+    let shorter = entries.len().min(distances.len());
+    let places = shorter.min(ask.index.entries());
+    list_within(
+        &ask,
+        r,
+        &mut marks[..words],
+        &mut entries[..places],
+        &mut distances[..places],
+    )
+}
+
+// A search that lists entries, as a value: the k nearest, or all within r.
+#[derive(Clone, Copy, Debug, PartialEq, Eq)]
+pub enum Sought {
+    Nearest(u32),
+    Within(u32),
+}
+
+impl Sought {
+    // Lists what is sought, as `nearest` or `within` does.
+    pub fn list<'a>(
+        self,
+        index: &Index<'a>,
+        query: &'a [u64],
+        marks: &mut [u64],
+        entries: &mut [u32],
+        distances: &mut [u32],
+    ) -> Result<Report, Refusal>
+        ensures { leaves result marks.new entries.new distances.new ≡ sought_end self (asked (question index.now query.now) marks.old entries.old distances.old) }
+    {
+        match self {
+            Sought::Nearest(k) => nearest(index, query, k, marks, entries, distances),
+            Sought::Within(r) => within(index, query, r, marks, entries, distances),
+        }
+    }
 }
 
 // The verdict on the nearest tested entry and its runner-up, with reach t and gap g. Only an unsure verdict reads the runner-up's star.
@@ -193,21 +215,20 @@ fn judge(index: &Accepted<'_>, rivals: Rivals, t: u32, g: u32) -> Verdict
     requires { Judgeable index.now.stars rivals }
     ensures { Says (λ (i : ℕ). get_or index.now.stars i 0) t g rivals result }
 {
-    if rivals.first == NOBODY {
+    if rivals.first == Standing::NOBODY {
         return Verdict::None;
     }
-    let distance = rivals.first / ENTRIES;
+    let distance = rivals.first.distance();
     if t < distance {
         return Verdict::None;
     }
     let star = rivals.star;
-    if rivals.other == NOBODY {
+    if rivals.other == Standing::NOBODY {
         return Verdict::Match { star, distance };
     }
-    let farther = rivals.other / ENTRIES;
+    let farther = rivals.other.distance();
     if farther - distance < g {
-        let entry = (rivals.other % ENTRIES) as usize;
-        let other = index.star(entry);
+        let other = index.star(rivals.other.entry());
         return Verdict::Unsure {
             star,
             other,
@@ -218,7 +239,7 @@ fn judge(index: &Accepted<'_>, rivals: Rivals, t: u32, g: u32) -> Verdict
     Verdict::Match { star, distance }
 }
 
-// Gives the verdict, where none of refusals 1 to 5 fits. Marks as above.
+// Gives the verdict, where none of refusals 1 to 5 fits. The marks are the words that n entries need.
 fn give_verdict(
     ask: &Question<'_>,
     t: u32,
@@ -229,11 +250,9 @@ fn give_verdict(
     ensures value { result ≡ verdict_found ask.now t g }
     ensures marks_after { marks.new ≡ padded (length marks.old) [] }
 {
-    let words = marks.len();
-    codes::clear(marks, words);
-    let mut tally = [0u32; 257];
+    let mut tally = fresh(marks);
     let walked = walk::verdict(ask, marks, &mut tally);
-    codes::clear(marks, words);
+    marks.fill(0);
     let w = walked?;
     let verdict = judge(&ask.index, w.seen.rivals, t, g);
     Ok(VerdictReport {
@@ -254,6 +273,6 @@ pub fn verdict<'a>(
     ensures { judges result marks.new ≡ verdict_end (question index.now query.now) marks.old t g }
 {
     let ask = accept(index, query, t.max(g), marks)?;
-    let words = ask.index.entries().div_ceil(64);
+    let words = ask.index.mark_words();
     give_verdict(&ask, t, g, &mut marks[..words])
 }

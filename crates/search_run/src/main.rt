@@ -4,10 +4,10 @@
 
 ghost use Rattle.std.specs.Prelude.{◌<◌, length};
 
-use Question::{Nearest, Within};
-use scope::{Index, Refusal, Report, Shape};
-use shown::{Found, Judged, Places, Words};
-use std::{fmt, io};
+use scope::{Index, Shape};
+use search::Sought::{self, Nearest, Within};
+use shown::{Found, Judged, Places, Question, Words};
+use std::io;
 
 mod shown;
 
@@ -41,33 +41,21 @@ const CODES: [u64; 5] = [0, 1, 0xff, 0xffff_ffff_ffff_ffff, 0x0101_0101_0101_010
 
 #[derive(Clone, Copy)]
 struct Lists {
-    stars: [u32; 5],
-    codes: [u64; 5],
     starts: [u32; 2057],
     ids: [u32; 41],
 }
 
 impl Lists {
+    // The builder's answer is dropped: had it refused, each start would be 77, which lies above n, and the searches would be refused.
     fn built() -> Self {
         let mut starts = [77; 2057];
         let mut ids = [77; 41];
         let _ = tables::build(A, &STARS, &CODES, &mut starts, &mut ids);
-        Lists {
-            stars: STARS,
-            codes: CODES,
-            starts,
-            ids,
-        }
+        Lists { starts, ids }
     }
 
     fn index(&self) -> Index<'_> {
-        Index {
-            shape: A,
-            stars: &self.stars,
-            codes: &self.codes,
-            starts: &self.starts,
-            ids: &self.ids,
-        }
+        over_a(&self.starts, &self.ids)
     }
 
     // Changes start(v) of table z, or the id at a place of table z.
@@ -84,22 +72,17 @@ impl Lists {
     }
 }
 
-// ---- one call, and its line
-
-#[derive(Clone, Copy)]
-enum Question {
-    Nearest(u32),
-    Within(u32),
-}
-
-impl fmt::Display for Question {
-    fn fmt<W: fmt::Write>(&self, f: &mut fmt::Formatter<W>) -> fmt::Result {
-        match *self {
-            Nearest(k) => write!(f, "nearest {k}"),
-            Within(r) => write!(f, "within {r}"),
-        }
+fn over_a<'a>(starts: &'a [u32], ids: &'a [u32]) -> Index<'a> {
+    Index {
+        shape: A,
+        stars: &STARS,
+        codes: &CODES,
+        starts,
+        ids,
     }
 }
+
+// ---- one call, and its line
 
 // How many mark words a call is lent, and how many places for entries and for distances.
 #[derive(Clone, Copy)]
@@ -118,27 +101,14 @@ struct Case<'a> {
 }
 
 impl Case<'_> {
-    // e and d are the answer lists.
-    fn find(
-        &self,
-        question: Question,
-        marks: &mut [u64],
-        e: &mut [u32],
-        d: &mut [u32],
-    ) -> Result<Report, Refusal> {
-        match question {
-            Nearest(k) => search::nearest(self.index, self.query, k, marks, e, d),
-            Within(r) => search::within(self.index, self.query, r, marks, e, d),
-        }
-    }
-
-    fn ask(&self, rt: &impl Print, question: Question) -> io::Result<()> {
+    fn ask(&self, rt: &impl Print, question: Sought) -> io::Result<()> {
         let mut marks = [0xff; 3];
         let mut entries = [99; 7];
         let mut distances = [99; 7];
         let Room(words, e, d) = self.room;
-        let found = Found(self.find(
-            question,
+        let found = Found(question.list(
+            self.index,
+            self.query,
             &mut marks[..words.min(3)],
             &mut entries[..e.min(7)],
             &mut distances[..d.min(7)],
@@ -149,13 +119,14 @@ impl Case<'_> {
     fn show(
         &self,
         rt: &impl Print,
-        question: Question,
+        question: Sought,
         found: Found,
         marks: &[u64],
         entries: &[u32],
         distances: &[u32],
     ) -> io::Result<()> {
         let name = self.name;
+        let question = Question(question);
         print!(rt; "{name}: {question}: {found} |{}", Words(marks))?;
         println!(rt; " |{} |{}", Places(entries), Places(distances))
     }
@@ -187,7 +158,7 @@ fn ample<'a>(name: &'a str, index: &'a Index<'a>, query: &'a [u64]) -> Case<'a> 
     }
 }
 
-fn lend(rt: &impl Print, name: &str, question: Question, room: Room) -> io::Result<()> {
+fn lend(rt: &impl Print, name: &str, question: Sought, room: Room) -> io::Result<()> {
     let a = Lists::built();
     let index = a.index();
     let case = Case {
@@ -212,7 +183,7 @@ fn spoiled<F: FnOnce(&mut Lists)>(spoil: F) -> Lists
 fn with<F: FnOnce(&mut Lists)>(
     rt: &impl Print,
     name: &str,
-    question: Question,
+    question: Sought,
     spoil: F,
 ) -> io::Result<()>
     requires { F.IsAlwaysCallable spoil }
@@ -261,8 +232,10 @@ fn unlisted_shapes(rt: &impl Print) -> io::Result<()> {
         ("m 4294967295", 1, 4294967295),
         ("w 1 m 8", 1, 8),
     ] {
-        let mut index = a.index();
-        index.shape = Shape { w, m };
+        let index = Index {
+            shape: Shape { w, m },
+            ..a.index()
+        };
         ample(name, &index, &[3]).ask_each(rt)?;
     }
     Ok(())
@@ -279,11 +252,9 @@ fn misfit_catalogues(rt: &impl Print) -> io::Result<()> {
 fn with_catalogue(rt: &impl Print, name: &str, stars: &[u32], codes: &[u64]) -> io::Result<()> {
     let a = Lists::built();
     let index = Index {
-        shape: A,
         stars,
         codes,
-        starts: &a.starts,
-        ids: &a.ids,
+        ..a.index()
     };
     ample(name, &index, &[3]).ask_each(rt)
 }
@@ -298,9 +269,7 @@ fn short_tables(rt: &impl Print) -> io::Result<()> {
 
 fn with_tables(rt: &impl Print, name: &str, starts: usize, ids: usize) -> io::Result<()> {
     let a = Lists::built();
-    let mut index = a.index();
-    index.starts = &a.starts[..starts.min(2057)];
-    index.ids = &a.ids[..ids.min(41)];
+    let index = over_a(&a.starts[..starts.min(2057)], &a.ids[..ids.min(41)]);
     ample(name, &index, &[3]).ask_each(rt)
 }
 
@@ -361,10 +330,8 @@ fn mended(
 ) -> io::Result<()> {
     let index = Index {
         shape: Shape { w, m: 8 },
-        stars: &STARS,
         codes,
-        starts,
-        ids: &[77; 40],
+        ..over_a(starts, &[77; 40])
     };
     let case = Case {
         name,
@@ -449,16 +416,6 @@ fn missing_entries(rt: &impl Print) -> io::Result<()> {
     ample("none listed", &none, &[3]).ask_each(rt)
 }
 
-fn over_a<'a>(starts: &'a [u32], ids: &'a [u32]) -> Index<'a> {
-    Index {
-        shape: A,
-        stars: &STARS,
-        codes: &CODES,
-        starts,
-        ids,
-    }
-}
-
 // Bucket 0 of table 1 lists these entries, every other bucket none.
 fn few_listed(entries: &[u32]) -> ([u32; 2056], [u32; 40])
     requires { length entries.now < 3 }
@@ -473,16 +430,9 @@ fn few_listed(entries: &[u32]) -> ([u32; 2056], [u32; 40])
 
 // Nothing is opened, and refusals 1 to 5 still come first.
 fn no_entry(rt: &impl Print) -> io::Result<()> {
-    let empty = Index {
-        shape: A,
-        stars: &[],
-        codes: &[],
-        starts: &[77; 2056],
-        ids: &[],
-    };
     let case = Case {
         name: "n 0",
-        index: &empty,
+        index: &without_stars(&[77; 2056], &[]),
         query: &[3],
         room: NONE,
     };
@@ -495,14 +445,15 @@ fn no_entry(rt: &impl Print) -> io::Result<()> {
 }
 
 fn with_codes(rt: &impl Print, name: &str, starts: &[u32], codes: &[u64]) -> io::Result<()> {
-    let index = Index {
-        shape: A,
+    ample(name, &without_stars(starts, codes), &[3]).ask_each(rt)
+}
+
+fn without_stars<'a>(starts: &'a [u32], codes: &'a [u64]) -> Index<'a> {
+    Index {
         stars: &[],
         codes,
-        starts,
-        ids: &[],
-    };
-    ample(name, &index, &[3]).ask_each(rt)
+        ..over_a(starts, &[])
+    }
 }
 
 fn verdicts(rt: &impl Print) -> io::Result<()> {
@@ -543,7 +494,7 @@ fn judge_alike(
     ample(name, &index, &[3]).judge(rt, t, g)
 }
 
-// The builder's tables, in lists that are lent.
+// The builder's tables, in lists that are lent. Its answer is dropped: had it refused, each start would be 77, and the searches be refused or find every bucket empty.
 fn built<'a>(
     shape: Shape,
     stars: &'a [u32],
@@ -662,7 +613,7 @@ fn four_words_over(
     ask_fours(rt, &index, &within)
 }
 
-fn ask_fours(rt: &impl Print, index: &Index<'_>, questions: &[Question]) -> io::Result<()> {
+fn ask_fours(rt: &impl Print, index: &Index<'_>, questions: &[Sought]) -> io::Result<()> {
     let query = [0x0123_4567_89ab_cdef, 0x1111_2222_3333_4444, 0, 9];
     let case = ample("w 4 m 16", index, &query);
     for question in questions {
@@ -687,17 +638,13 @@ fn largest_catalogue(rt: &impl Print) -> io::Result<()> {
 }
 
 // Shows the last two mark words needed, and the one behind them.
-fn ask_largest(
-    rt: &impl Print,
-    case: &Case<'_>,
-    question: Question,
-    words: usize,
-) -> io::Result<()> {
+fn ask_largest(rt: &impl Print, case: &Case<'_>, question: Sought, words: usize) -> io::Result<()> {
     let mut marks = [0xff; 1025];
     let mut entries = [99; 7];
     let mut distances = [99; 7];
-    let found = Found(case.find(
-        question,
+    let found = Found(question.list(
+        case.index,
+        case.query,
         &mut marks[..words.min(1025)],
         &mut entries[..3],
         &mut distances[..4],

@@ -1,6 +1,19 @@
 // What a line shows.
 use scope::{Refusal, Report, Verdict, VerdictReport};
+use search::Sought;
 use std::fmt;
+
+#[derive(Clone, Copy)]
+pub struct Question(pub Sought);
+
+impl fmt::Display for Question {
+    fn fmt<W: fmt::Write>(&self, f: &mut fmt::Formatter<W>) -> fmt::Result {
+        match self.0 {
+            Sought::Nearest(k) => write!(f, "nearest {k}"),
+            Sought::Within(r) => write!(f, "within {r}"),
+        }
+    }
+}
 
 // What the searches nearest and within answer, and what verdict answers.
 #[derive(Clone, Copy)]

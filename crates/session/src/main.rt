@@ -1,27 +1,29 @@
-// The session program: reads records, takes turns, writes lines. What a record means and what is printed is decided in `records`.
+// The session program: reads records, takes turns, writes lines. What a record means is decided in `reading`, what it leaves and prints in `records`.
 #![tactic(auto)]
 
 ghost use Rattle.std.specs.Prelude.{◌≤◌, IfOk, length};
 
-use reading::Session;
+use reading::{LONGEST_RECORD, Session};
 use std::io;
 use std::io::{Read, Write};
-use transcript::{Desk, Lists};
+use transcript::{Catalogue, Desk, ENTRIES, IDS, Lists, MARKS, STARTS, TEXT, WORDS};
 
 fn main(rt: HostRuntime) -> io::Result<()> {
-    let mut buf = [0u8; 8197];
+    let mut buf = [0u8; LONGEST_RECORD];
     let mut desk = Desk {
-        stars: [0; 512],
-        codes: [0; 1024],
-        starts: [0; 4112],
-        ids: [0; 16384],
+        catalogue: Catalogue {
+            stars: [0; ENTRIES],
+            codes: [0; WORDS],
+            starts: [0; STARTS],
+            ids: [0; IDS],
+        },
         lists: Lists {
-            marks: [0; 8],
-            entries: [0; 512],
-            distances: [0; 512],
+            marks: [0; MARKS],
+            entries: [0; ENTRIES],
+            distances: [0; ENTRIES],
         },
     };
-    let mut out = [0u8; 17408];
+    let mut out = [0u8; TEXT];
     run(
         &mut rt.stdin(),
         &mut rt.stdout(),
@@ -35,17 +37,15 @@ fn main(rt: HostRuntime) -> io::Result<()> {
 fn run(
     input: &mut impl Read,
     output: &mut impl Write,
-    buf: &mut [u8],
+    buf: &mut [u8; LONGEST_RECORD],
     desk: &mut Desk,
-    out: &mut [u8; 17408],
-) -> io::Result<()>
-    requires { 8197 ≤ length buf.old }
-{
+    out: &mut [u8; TEXT],
+) -> io::Result<()> {
     let mut session = Session::start();
     loop {
         let got = read_record(input, buf)?;
         let turned = records::turn(session, &buf[..got], desk, out);
-        write_text(output, out, turned.written)?;
+        output.write_all(&out[..turned.written])?;
         match turned.next {
             Some(next) => session = next,
             None => return Ok(()),
@@ -54,9 +54,8 @@ fn run(
 }
 
 // Reads the next record, or what the input still has of it, to the front of buf, and returns how many bytes, as read_full does.
-fn read_record(input: &mut impl Read, buf: &mut [u8]) -> io::Result<usize>
-    requires { 8197 ≤ length buf.old }
-    ensures { IfOk result (λ n. n ≤ 8197) }
+fn read_record(input: &mut impl Read, buf: &mut [u8; LONGEST_RECORD]) -> io::Result<usize>
+    ensures { IfOk result (λ n. n ≤ LONGEST_RECORD) }
 {
     let got = read_full(input, &mut buf[..4])?;
     let n = reading::body_length(&buf[..got]);
@@ -82,12 +81,4 @@ fn read_full(input: &mut impl Read, buf: &mut [u8]) -> io::Result<usize>
         done += n;
     }
     Ok(done)
-}
-
-// No turn writes more than fits: what it wrote is a number, as a turn says it.
-fn write_text(output: &mut impl Write, out: &[u8], n: usize) -> io::Result<()> {
-    if n <= out.len() {
-        output.write_all(&out[..n])?;
-    }
-    Ok(())
 }

@@ -21,10 +21,8 @@ use Rattle.shapes.specs.contracts.accepted.Accepted.of as of
 use Rattle.shapes.proofs.accepted.Accepted.of.Reads as of_reads
 use Rattle.shapes.specs.contracts.accepted.Accepted.entries as entries
 use Rattle.shapes.proofs.accepted.Accepted.entries.Reads as entries_reads
-use Rattle.shapes.specs.contracts.accepted.Accepted.places as places
-use Rattle.shapes.proofs.accepted.Accepted.places.Reads as places_reads
-use Rattle.shapes.specs.contracts.accepted.Accepted.substring as substring
-use Rattle.shapes.proofs.accepted.Accepted.substring.Reads as substring_reads
+use Rattle.shapes.specs.contracts.accepted.Accepted.mark_words as mark_words
+use Rattle.shapes.proofs.accepted.Accepted.mark_words.Reads as mark_words_reads
 use Rattle.shapes.specs.contracts.accepted.Accepted.star as star
 use Rattle.shapes.proofs.accepted.Accepted.star.Reads as star_reads
 use Rattle.shapes.specs.contracts.shape.ListedShape.words as words
@@ -62,11 +60,8 @@ of-Determined κs a x y = result
 pub entries-Determined : Determined entries.ended entries_reads.Post
 entries-Determined κs a x y p q = result p.0 q.0
 
-pub places-Determined : Determined places.ended places_reads.Post
-places-Determined κs a x y p q = result (λ i. record { start = p.0 i; end = p.1 i }) (λ i. record { start = q.0 i; end = q.1 i })
-
-pub substring-Determined : Determined substring.ended substring_reads.Post
-substring-Determined κs a x y = result
+pub mark_words-Determined : Determined mark_words.ended mark_words_reads.Post
+mark_words-Determined κs a x y = result
 
 pub star-Determined : Determined star.ended star_reads.Post
 star-Determined κs a x y = result

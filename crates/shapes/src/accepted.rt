@@ -1,14 +1,13 @@
 // An index that none of refusals 1 to 3 fits.
 ghost use Rattle.std.specs.Prelude.{◌≡◌, not, ◌||◌, ◌*◌, ◌+◌, ◌≤◌, ◌<◌, eqb, ltb, get_or};
-ghost use Rattle.scope.specs.Refusals.{one_to_three, unless};
+ghost use Rattle.scope.specs.Refusals.{one_to_three, unless, mark_words};
 ghost use Rattle.scope.specs.Shape as spec;
-ghost use Rattle.scope.specs.Tables as tables;
 ghost use Rattle.scope.specs.Tables.{n};
 
 use crate::shape::ListedShape;
+use codes::Codes;
 use scope::{Index, Refusal};
 use std::marker::Model;
-use std::ops::Range;
 
 // Refusal 2: whether n is too large, or the code list is not n * w words long.
 fn misfit(shape: ListedShape, n: usize, words: usize) -> bool
@@ -26,7 +25,7 @@ fn short(shape: ListedShape, n: usize, starts: usize, ids: usize) -> bool
     starts < shape.starts_before(m) || ids < m * n
 }
 
-// Flat, like Index: only the shape is of another type.
+// Flat, like Index, so that each list is one step away; only the shape is of another type.
 #[derive(Drop)]
 pub struct Accepted<'a> {
     pub shape: ListedShape,
@@ -86,28 +85,20 @@ impl<'a> Accepted<'a> {
         stars[i]
     }
 
-    // The places from start(v) of table z up to start(v + 1), where bucket v's ids stand.
-    pub fn places(&self, z: usize, v: usize) -> Range<usize>
-        requires { (z < spec.m self.now.shape) × (v < spec.size self.now.shape z) }
-        ensures { (result.start ≡ tables.start self.now z v) × (result.end ≡ tables.start self.now z (v + 1)) }
+    // The catalogue's codes, with the number of their words.
+    pub fn codes(&self) -> Codes<'a>
+        ensures { (result.words.now ≡ self.now.codes) × (result.w ≡ self.now.shape.w) }
     {
-        let starts = self.starts;
-        let at = self.shape.starts_before(z) + v;
-        starts[at] as usize..starts[at + 1] as usize
+        Codes {
+            words: self.codes,
+            w: self.shape.words(),
+        }
     }
 
-    // Substring z of entry i.
-    pub fn substring(&self, z: usize, i: usize) -> usize
-        requires { (z < spec.m self.now.shape) × (i < n self.now) }
-        ensures { result ≡ tables.substring_of self.now z i }
+    // How many words the marks of its entries need.
+    pub fn mark_words(&self) -> usize
+        ensures { result ≡ mark_words (n self.now) }
     {
-        let shape = self.shape;
-        codes::entry_substring(
-            self.codes,
-            i,
-            shape.words(),
-            shape.first_bit(z),
-            shape.bits(z),
-        )
+        self.entries().div_ceil(64)
     }
 }

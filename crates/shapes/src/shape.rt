@@ -63,14 +63,14 @@ impl TryFrom<Shape> for ListedShape {
 }
 
 impl ListedShape {
-    // How many words a code has,
+    // How many words a code has.
     pub fn words(self) -> usize
         ensures { result ≡ self.w }
     {
         self.shape.w as usize
     }
 
-    // and how many bits.
+    // How many bits a code has.
     pub fn q(self) -> u32
         ensures value { result ≡ spec.q self }
         ensures few { result ≤ 256 }
@@ -85,7 +85,7 @@ impl ListedShape {
         tables(self.shape)
     }
 
-    // Every substring has so many bits,
+    // Every substring has so many bits or one more.
     fn least(self) -> usize
         ensures value { result ≡ spec.q self / spec.m self }
         ensures known { spec.listed self ≡ true }
@@ -93,7 +93,7 @@ impl ListedShape {
         (self.q() / self.shape.m) as usize
     }
 
-    // and so many of them, the first, have one more.
+    // So many substrings, the first, have one bit more.
     fn longer(self) -> usize
         ensures { result ≡ spec.q self % spec.m self }
     {

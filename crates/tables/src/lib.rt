@@ -3,45 +3,46 @@
 
 ghost use Rattle.std.specs.Prelude.{◌≡◌, Ok, true, ◌*◌, ◌≤◌, ◌<◌, length};
 ghost use Rattle.theory.specs.Lists.{over};
-ghost use Rattle.scope.specs.Shape.{m, first_bit};
+ghost use Rattle.scope.specs.Shape.{m};
 ghost use Rattle.scope.specs.Tables.{index, built_starts, built_ids, sound};
 ghost use Rattle.scope.specs.Calls.{build_answer, builds, build_end, check_answer};
-ghost use Rattle.tables.specs.Parts.{IsPart};
+ghost use Rattle.tables.specs.Parts.{IsPart, right};
 
 use buckets::Table;
+use codes::Codes;
 use scope::{Index, Refusal, Shape};
 use shapes::{Accepted, ListedShape};
+use std::ops::Range;
 
-// Table z, and its parts of the two lists: the starts from `from` to `end`, the ids from `at` to `to`.
-#[derive(Clone, Copy)]
+// Table z, and its parts of the two lists.
+#[derive(Drop)]
 struct Part<'a> {
     table: Table<'a>,
-    from: usize,
-    end: usize,
-    at: usize,
-    to: usize,
+    starts: Range<usize>,
+    ids: Range<usize>,
 }
 
 impl<'a> Part<'a> {
-    // Substring z begins at `bit`. How many bits it has is worked out here, once for all the entries.
-    fn of(shape: ListedShape, n: usize, codes: &'a [u64], z: usize, bit: usize) -> Part<'a>
-        requires shape { (z < m shape) × (bit ≡ first_bit shape z) }
+    // What is worked out of the shape is worked out here, once for all the entries.
+    fn of(shape: ListedShape, n: usize, codes: &'a [u64], z: usize) -> Part<'a>
+        requires shape { z < m shape }
         requires codes { (n ≤ 65536) × (length codes.now ≡ n * shape.w) }
         ensures { IsPart shape n codes.now z result }
     {
+        let codes = Codes {
+            words: codes,
+            w: shape.shape.w as usize,
+        };
         let table = Table {
             codes,
-            w: shape.shape.w as usize,
-            from: bit,
+            from: shape.first_bit(z),
             bits: shape.bits(z),
             n,
         };
         Part {
             table,
-            from: shape.starts_before(z),
-            end: shape.starts_before(z + 1),
-            at: z * n,
-            to: z * n + n,
+            starts: shape.starts_before(z)..shape.starts_before(z + 1),
+            ids: z * n..z * n + n,
         }
     }
 }
@@ -52,13 +53,10 @@ fn fill(shape: ListedShape, stars: &[u32], codes: &[u64], starts: &mut [u32], id
     ensures starts_after { starts.new ≡ over (built_starts (index shape stars.now codes.now starts.old ids.old)) starts.old }
     ensures ids_after { ids.new ≡ over (built_ids (index shape stars.now codes.now starts.old ids.old)) ids.old }
 {
-    // substring z's first bit
-    let mut bit = 0;
     for z in 0..shape.m() {
-        let p = Part::of(shape, stars.len(), codes, z, bit);
-        p.table
-            .build(&mut starts[p.from..p.end], &mut ids[p.at..p.to]);
-        bit += p.table.bits;
+        let part = Part::of(shape, stars.len(), codes, z);
+        part.table
+            .build(&mut starts[part.starts], &mut ids[part.ids]);
     }
 }
 
@@ -83,24 +81,21 @@ pub fn build(
     Ok(())
 }
 
-// Whether each table's parts are what the builder writes.
+// Whether table z's parts are what the builder writes.
+fn right(index: &Accepted<'_>, z: usize) -> bool
+    requires { z < m index.now.shape }
+    ensures { result ≡ right index.now z }
+{
+    let part = Part::of(index.shape, index.entries(), index.codes, z);
+    part.table
+        .check(&index.starts[part.starts], &index.ids[part.ids])
+}
+
+// Whether each table's are.
 fn all_right(index: &Accepted<'_>) -> bool
     ensures { result ≡ sound index.now }
 {
-    let shape = index.shape;
-    // substring z's first bit
-    let mut bit = 0;
-    for z in 0..shape.m() {
-        let p = Part::of(shape, index.entries(), index.codes, z, bit);
-        if !p
-            .table
-            .check(&index.starts[p.from..p.end], &index.ids[p.at..p.to])
-        {
-            return false;
-        }
-        bit += p.table.bits;
-    }
-    true
+    (0..index.shape.m()).all(|z| right(index, z))
 }
 
 // Says yes exactly when the used parts of both lists are what the builder writes.

@@ -4,10 +4,11 @@ use mathlib.Core.List.{List, [], ◌∷◌, ◌++◌, append_assoc, append-nil}
 use Prim.Native.Nat.{ℕ, suc, ◌+◌, ◌-◌, ◌≤◌, ◌<◌}
 use native.Mathlib.Numerals.{add-one}
 use native.Mathlib.Omega.{arith}
-use lib.ListN.{length, get_or, drop, set}
+use lib.ListN.{length, get_or, drop, set, replicate}
 use lib.Seq.{drop-cons, drop-length, set_at, get_or-drop, get_or-append-add}
+use Rattle.std.proofs.lemmas.List.{length-replicate, get_or-replicate}
 use Rattle.theory.specs.Lists.{cat, tab, over}
-use Rattle.theory.proofs.Lists.{tab-suc, length-tab}
+use Rattle.theory.proofs.Lists.{is_tab, tab-suc, length-tab}
 
 module _ {A : Type 0} (f : ℕ → A) (old : List A) where
   pub over-tab : (i : ℕ) → over (tab f i) old ≡ tab f i ++ drop i old
@@ -37,3 +38,7 @@ module _ {A : Type 0} (f : ℕ → A) (old : List A) where
       ∙ get_or-append-add (tab f i) (drop (length (tab f i)) old) (v - i) d
       ∙ get_or-drop (length (tab f i)) old (v - i) d
       ∙ ap (λ (k : ℕ). get_or old k d) back
+
+-- k zeros
+pub zeros : (k : ℕ) → replicate {A = ℕ} k 0 ≡ tab (λ _. 0) k
+zeros k = is_tab (λ _. 0) 0 k (replicate {A = ℕ} k 0) (length-replicate {A = ℕ} k 0) (λ i h. get_or-replicate k i 0 0 h)

@@ -1,15 +1,14 @@
 -- The lists of a running session hold its catalogue and, from the first question on, its tables. Assumes nothing.
 use mathlib.Core.Path.{◌≡◌, refl, ap, sym, ◌∙◌}
 use mathlib.Core.Bool.{Bool, true, false}
-use mathlib.Core.List.{List, [], ◌∷◌, ◌++◌, append_assoc}
+use mathlib.Core.List.{List, [], ◌∷◌, ◌++◌}
 use mathlib.Core.Logic.{◌⊎◌, inl, inr, ⊎_elim}
-use Prim.Native.Nat.{ℕ, suc, ◌+◌, ◌*◌, ◌≤◌, ◌<◌}
-use native.Mathlib.Nat.{mul-le-mul}
+use Prim.Native.Nat.{ℕ, ◌+◌, ◌*◌, ◌≤◌, ◌<◌}
+use native.Mathlib.Nat.{mul_comm, mul-le-mul}
 use native.Mathlib.Numerals.{add-one}
 use native.Mathlib.Omega.{arith}
-use lib.ListN.{length, take, set, replicate, length-append, length-set}
-use lib.Seq.{length-take-le}
-use lib.Seq.{take-suc-set}
+use lib.ListN.{length, take, replicate, length-append, length-set}
+use lib.Seq.{length-take-le, take-suc-set, take_at, sets, sets-eq, length-sets}
 use Rattle.theory.proofs.Tests.{both_ways, lt-or-le}
 use Rattle.scope.specs.declared.Shape.{Shape}
 use Rattle.scope.specs.Tables.{Index, index}
@@ -18,14 +17,14 @@ use Rattle.reading.specs.declared.Session.{Session}
 use Rattle.reading.specs.declared.Code.{Code}
 use Rattle.reading.specs.declared.Question.{Question}
 use Rattle.reading.specs.declared.Record.TheVariants.{Head, Entry, Ask}
-use Rattle.reading.specs.Records.{Next, record_of}
+use Rattle.reading.specs.Records.{Next, code_at, record_of}
 use Rattle.std.specs.Prelude.{Some, None, Ok, Err}
-use Rattle.reading.proofs.Going.{head_first, entry_next, ask_last}
+use Rattle.reading.proofs.Going.{head_first, entry_next, entry_code, ask_last}
 use Rattle.reading.specs.State.{start_of, number_of, next_of}
 use Rattle.transcript.specs.Opening.{opening}
 use Rattle.transcript.specs.Questions.{shape_of, words_of, reply}
 use Rattle.transcript.specs.Transcript.{built, fresh, text_in, stars_with, codes_with}
-use Rattle.transcript.specs.Turn.{code_kept, starts_for, ids_for, index_for, desk_after, text_of, empty}
+use Rattle.transcript.specs.Turn.{index_of, code_kept, tabled, desk_after, text_of, empty}
 use Rattle.transcript.specs.declared.Desk.{Desk}
 use Rattle.transcript.proofs.Room.{Headed, builds}
 use Rattle.transcript.proofs.Replies.{Sized, fresh_sized, same_text, still_sized}
@@ -36,12 +35,12 @@ pub record Linked (session : Session) (d : Desk) (stars codes : List ℕ) : Type
   pub narrow : session.words ≤ 2
   pub headed : (session.words ≡ 0 → ⊥) → Headed (shape_of session)
   pub headless : session.words ≡ 0 → (session.entries ≡ 0) × (session.asked ≡ false)
-  pub kept : take session.entries d.stars ≡ stars
-  pub held : take (session.entries * session.words) d.codes ≡ codes
-  pub places : length d.stars ≡ 512
-  pub words : length d.codes ≡ 1024
-  pub unbuilt : session.asked ≡ false → (d.starts ≡ replicate 4112 0) × (d.ids ≡ replicate 16384 0)
-  pub tables : session.asked ≡ true → (d.starts ≡ (built (shape_of session) stars codes).starts) × (d.ids ≡ (built (shape_of session) stars codes).ids)
+  pub kept : take session.entries d.catalogue.stars ≡ stars
+  pub held : take (session.entries * session.words) d.catalogue.codes ≡ codes
+  pub places : length d.catalogue.stars ≡ 512
+  pub words : length d.catalogue.codes ≡ 1024
+  pub unbuilt : session.asked ≡ false → (d.catalogue.starts ≡ replicate 4112 0) × (d.catalogue.ids ≡ replicate 16384 0)
+  pub tables : session.asked ≡ true → (d.catalogue.starts ≡ (built (shape_of session) stars codes).starts) × (d.catalogue.ids ≡ (built (shape_of session) stars codes).ids)
   pub sized : Sized d.lists
 
 pub linked_start : Linked start_of empty [] []
@@ -61,27 +60,21 @@ linked_start =
       sized = fresh_sized;
     }
 
--- one more code, behind those before it
-code_kept_lem : (w e : ℕ) (code : Code) (l : List ℕ) → (w ≡ 1) ⊎ (w ≡ 2) → e < 512 → length l ≡ 1024
-    → take ((e + 1) * w) (code_kept w e code l) ≡ take (e * w) l ++ words_of w code
-code_kept_lem w e code l (inl one) h len =
-    let a : (e + 1) * 1 ≡ suc e = omega arith in
-    let b : e * 1 ≡ e = omega arith in
-    rw (one, a, b) (take-suc-set l e code.low (omega arith))
-code_kept_lem w e code l (inr two) h len =
-    let a : (e + 1) * 2 ≡ suc (2 * e + 1) = omega arith in
-    let b : e * 2 ≡ 2 * e = omega arith in
-    let c : 2 * e + 1 ≡ suc (2 * e) = omega arith in
-    let m = set l (2 * e) code.low in
-    let n : length m ≡ 1024 = length-set l (2 * e) code.low ∙ len in
-    rw (two, a, b)
-    (take-suc-set m (2 * e + 1) code.high (omega arith)
-    ∙ ap (λ (t : List ℕ). t ++ code.high ∷ []) (ap (λ (k : ℕ). take k m) c ∙ take-suc-set l (2 * e) code.low (omega arith))
-    ∙ append_assoc (take (2 * e) l) (code.low ∷ []) (code.high ∷ []))
+-- a code has its session's words
+code-long : (w at : ℕ) (b : List ℕ) → (w ≡ 1) ⊎ (w ≡ 2) → length (words_of (code_at w b at)) ≡ w
+code-long w at b (inl one) = rw one
+code-long w at b (inr two) = rw two
 
-code-length : (w e : ℕ) (code : Code) (l : List ℕ) → (w ≡ 1) ⊎ (w ≡ 2) → length (code_kept w e code l) ≡ length l
-code-length w e code l (inl one) = rw one (length-set l e code.low)
-code-length w e code l (inr two) = rw two (length-set (set l (2 * e) code.low) (2 * e + 1) code.high ∙ length-set l (2 * e) code.low)
+-- one more code, behind those before it
+code_kept_lem : (w e : ℕ) (code : Code) (l : List ℕ) → length (words_of code) ≡ w → w ≤ 2 → e < 512 → length l ≡ 1024
+    → take ((e + 1) * w) (code_kept e code l) ≡ take (e * w) l ++ words_of code
+code_kept_lem w e code l long narrow few room =
+    let c = words_of code in
+    let place : length c * e ≡ e * w = mul_comm (length c) e ∙ ap (λ (k : ℕ). e * k) long in
+    let next : (e + 1) * w ≡ e * w + w = omega arith in
+    let fits : e * w + w ≤ 1024 = let most : e + 1 ≤ 512 = omega arith in omega (arith, mul-le-mul most narrow) in
+    ap (λ (k : ℕ). take ((e + 1) * w) (sets l k c)) place ∙ ap (take ((e + 1) * w)) (sets-eq c l (e * w) (omega arith))
+    ∙ take_at (take (e * w) l ++ c) _ _ (length-append (take (e * w) l) c ∙ omega (arith, length-take-le (e * w) l (omega arith)))
 
 one_or_two : (w : ℕ) → (w ≡ 0 → ⊥) → w ≤ 2 → (w ≡ 1) ⊎ (w ≡ 2)
 one_or_two w some most = ⊎_elim (λ (l : w < 2). inl (omega (arith, ne_zero w some))) (λ (g : 2 ≤ w). inr (omega arith)) (lt-or-le w 2)
@@ -95,7 +88,7 @@ index_is sh p q r t = λ i. index sh (p i) (q i) (r i) (t i)
 module _ (session : Session) (d : Desk) (stars codes : List ℕ) (link : Linked session d stars codes) where
   -- the index that a question is asked over
   tables_are : (t : Bool) → session.asked ≡ t
-      → (starts_for session d ≡ (built (shape_of session) stars codes).starts) × (ids_for session d ≡ (built (shape_of session) stars codes).ids)
+      → ((tabled session d.catalogue).starts ≡ (built (shape_of session) stars codes).starts) × ((tabled session d.catalogue).ids ≡ (built (shape_of session) stars codes).ids)
   unfolding built
   tables_are true e = let (p, q) = link.tables e in rw e (p, q)
   tables_are false e =
@@ -103,7 +96,7 @@ module _ (session : Session) (d : Desk) (stars codes : List ℕ) (link : Linked 
       let x = index_is (shape_of session) link.kept link.held p q in
       rw e (ap (λ (y : Index). (build_end y).starts) x, ap (λ (y : Index). (build_end y).ids) x)
 
-  index-built : index_for session d ≡ built (shape_of session) stars codes
+  index-built : index_of session (tabled session d.catalogue) ≡ built (shape_of session) stars codes
   unfolding built
   index-built =
       let (p, q) = tables_are session.asked refl in
@@ -113,7 +106,7 @@ module _ (session : Session) (d : Desk) (stars codes : List ℕ) (link : Linked 
   pub never_refused : (session.words ≡ 0 → ⊥) → build_answer (index (shape_of session) stars codes (replicate 4112 0) (replicate 16384 0)) ≡ Ok tt
   never_refused some =
       let long : length codes ≡ session.entries * session.words =
-      ap length (sym link.held) ∙ length-take-le (session.entries * session.words) d.codes
+      ap length (sym link.held) ∙ length-take-le (session.entries * session.words) d.catalogue.codes
       (omega (arith, link.words, mul-le-mul link.few link.narrow)) in
       builds (shape_of session) (link.headed some) stars codes (omega (arith, link.count, link.few)) (rw link.count long)
 
@@ -153,21 +146,23 @@ module _ (session : Session) (d : Desk) (stars codes : List ℕ) (link : Linked 
       }
 
   linked_entry : (s : List ℕ) (star : ℕ) (code : Code) → record_of session s ≡ Ok (Some (Entry star code))
-      → Linked (next_of session (Ok (Some (Entry star code)))) (desk_after session d s (Ok (Some (Entry star code)))) (stars ++ star ∷ []) (codes ++ words_of session.words code)
+      → Linked (next_of session (Ok (Some (Entry star code)))) (desk_after session d s (Ok (Some (Entry star code)))) (stars ++ star ∷ []) (codes ++ words_of code)
   linked_entry s star code e =
       let (some, quiet, few) = entry_next session s star code e in
-      let w = one_or_two session.words some link.narrow in
+      let code-is = entry_code session s star code e in
+      let long : length (words_of code) ≡ session.words =
+      ap (λ (c : Code). length (words_of c)) code-is ∙ code-long session.words 4 _ (one_or_two session.words some link.narrow) in
       record {
         count = length-append stars (star ∷ []) ∙ ap (λ (k : ℕ). k + 1) link.count;
         few = omega arith;
         narrow = link.narrow;
         headed = link.headed;
         headless = λ h. absurd (some h);
-        kept = rw (add-one session.entries) (take-suc-set d.stars session.entries star (omega (arith, link.places)))
+        kept = rw (add-one session.entries) (take-suc-set d.catalogue.stars session.entries star (omega (arith, link.places)))
             ∙ ap (λ (l : List ℕ). l ++ star ∷ []) link.kept;
-        held = code_kept_lem session.words session.entries code d.codes w few link.words ∙ ap (λ (l : List ℕ). l ++ words_of session.words code) link.held;
-        places = length-set d.stars session.entries star ∙ link.places;
-        words = code-length session.words session.entries code d.codes w ∙ link.words;
+        held = code_kept_lem session.words session.entries code d.catalogue.codes long link.narrow few link.words ∙ ap (λ (l : List ℕ). l ++ words_of code) link.held;
+        places = length-set d.catalogue.stars session.entries star ∙ link.places;
+        words = length-sets d.catalogue.codes _ (words_of code) ∙ link.words;
         unbuilt = link.unbuilt;
         tables = λ h. both_ways (sym h ∙ quiet);
         sized = link.sized;
@@ -177,7 +172,7 @@ module _ (session : Session) (d : Desk) (stars codes : List ℕ) (link : Linked 
       → Linked (next_of session (Ok (Some (Ask question)))) (desk_after session d s (Ok (Some (Ask question)))) stars codes
   linked_ask s question e =
       let t = tables_are session.asked refl in
-      let n : length (take session.entries d.stars) ≡ session.entries = ap length link.kept ∙ link.count in
+      let n : length (take session.entries d.catalogue.stars) ≡ session.entries = ap length link.kept ∙ link.count in
       record {
         count = link.count;
         few = link.few;
@@ -190,11 +185,11 @@ module _ (session : Session) (d : Desk) (stars codes : List ℕ) (link : Linked 
         words = link.words;
         unbuilt = λ h. both_ways h;
         tables = λ h. t;
-        sized = still_sized (number_of session) (index_for session d) (omega (arith, link.few)) d.lists link.sized question s;
+        sized = still_sized (number_of session) (index_of session (tabled session d.catalogue)) (omega (arith, link.few)) d.lists link.sized question s;
       }
 
   pub linked_on : (s : List ℕ) (rec : Next) → record_of session s ≡ rec
-      → Linked (next_of session rec) (desk_after session d s rec) (stars_with stars rec) (codes_with session.words codes rec)
+      → Linked (next_of session rec) (desk_after session d s rec) (stars_with stars rec) (codes_with codes rec)
   linked_on s (Ok None) e = link
   linked_on s (Err f) e = link
   linked_on s (Ok (Some (Head w m))) e = linked_head s w m e

@@ -6,7 +6,7 @@ use mathlib.Core.Logic.{◌⊎◌, inl, inr, ⊎_elim}
 use Rattle.std.specs.Prelude.{Option, Some, None, Ok, Err}
 use Prim.Native.Nat.{ℕ, zero, suc, ◌+◌, ◌-◌, ◌≤◌, ◌<◌}
 use native.Mathlib.Omega.{arith}
-use lib.ListN.{length, take}
+use lib.ListN.{length, take, drop, length-append}
 use Rattle.theory.specs.Lists.{over}
 use Rattle.theory.proofs.Tests.{both_ways}
 use Rattle.theory.proofs.Lists.{take-over}
@@ -23,14 +23,14 @@ use Rattle.reading.specs.State.{start_of, number_of, next_of}
 use Rattle.transcript.specs.Opening.{opening}
 use Rattle.transcript.specs.Questions.{Reply, reply}
 use Rattle.transcript.specs.Transcript.{text_in, stars_with, codes_with, printed, transcript}
-use Rattle.transcript.specs.Turn.{desk, starts_for, ids_for, index_for, desk_after, text_of, TurnEnd, turns, turn_at, turn_end, Ran, last, more, empty}
+use Rattle.transcript.specs.Turn.{desk, index_of, tabled, desk_after, text_of, TurnEnd, turns, turn_at, turn_end, Ran, last, more, empty}
 use Rattle.transcript.proofs.Linking.{Linked, linked_start, same_line, linked_on}
 
 -- ---- a turn on a record by itself is the turn on it in the input
 
 module _ (session : Session) (d : Desk) (out s : List ℕ) where
   reply_cut : (q : Question) → record_of session s ≡ Ok (Some (Ask q))
-      → reply (number_of session) (index_for session d) d.lists q (chunk_of s) ≡ reply (number_of session) (index_for session d) d.lists q s
+      → reply (number_of session) (index_of session (tabled session d.catalogue)) d.lists q (chunk_of s) ≡ reply (number_of session) (index_of session (tabled session d.catalogue)) d.lists q s
   unfolding reply
   reply_cut (Nearest k code) e = refl
   reply_cut (Within r code) e = refl
@@ -47,7 +47,7 @@ module _ (session : Session) (d : Desk) (out s : List ℕ) where
   at_cut (Ok (Some (Ask q))) e =
       ap (λ (y : Reply).
       turns (record { next = Some (next_of session (Ok (Some (Ask q)))); written = length (opening session ++ y.text) })
-      (desk d.stars d.codes (starts_for session d) (ids_for session d) y.lists) (over (opening session ++ y.text) out))
+      (desk (tabled session d.catalogue) y.lists) (over (opening session ++ y.text) out))
       (reply_cut q e)
 
   pub turn_cut : turn_end session d out (chunk_of s) ≡ turn_end session d out s
@@ -100,6 +100,19 @@ less_left session d out s t h =
     let (few, next) = goes_on session s going in
     (few, ap (λ (x : Session). x.records) (sym is) ∙ next)
 
+-- and a turn writes no more than its list holds
+pub text_fits : (session : Session) (d : Desk) (out s : List ℕ) {r : Turned} {e : Desk} {written : List ℕ} → turns r e written ≡ turn_end session d out s
+    → r.written ≤ length written
+unfolding turn_end
+text_fits session d out s t =
+    let text = text_of session d s (record_of session s) in
+    omega (
+      arith,
+      ap (λ (x : TurnEnd). x.answer.written) t,
+      ap (λ (x : TurnEnd). length x.out) t,
+      length-append text (drop (length text) out),
+    )
+
 -- ---- every run prints the transcript
 
 module _ (session : Session) (d : Desk) (out s : List ℕ) where
@@ -119,7 +132,7 @@ module _ (k : ℕ) (session : Session) (stars codes s : List ℕ) where
   printed_more : ends (record_of session s) ≡ false
       → printed (suc k) session stars codes s
       ≡ text_in session stars codes s (record_of session s)
-      ++ printed k (next_of session (record_of session s)) (stars_with stars (record_of session s)) (codes_with session.words codes (record_of session s)) (rest_of s)
+      ++ printed k (next_of session (record_of session s)) (stars_with stars (record_of session s)) (codes_with codes (record_of session s)) (rest_of s)
   unfolding printed
   printed_more h = rw h
 
@@ -142,7 +155,7 @@ ran {session} {d} {s} (more {text = text} out turn some rest) stars codes link k
     let (few, next) = less_left session d out s t some in
     let rec = record_of session s in
     let a = stars_with stars rec in
-    let b = codes_with session.words codes rec in
+    let b = codes_with codes rec in
     let k-is : suc (k - 1) ≡ k = omega arith in
     let ih = ran rest a b (link_next session d out s a b t is (linked_on session d stars codes link s rec refl)) (k - 1) (omega arith) in
     ap₂ (λ (x y : List ℕ). x ++ y) (printed-text session d out s turn ∙ same_line session d stars codes link s rec)

@@ -1,11 +1,12 @@
 -- What a question prints after its record number, and leaves in the lists lent to the searches. Assumes nothing.
-use Rattle.std.specs.Prelude.{ℕ, cond, List, [], ◌∷◌, eqb}
+use Rattle.std.specs.Prelude.{ℕ, List}
 use Rattle.scope.specs.declared.Shape.{Shape}
 use Rattle.scope.specs.Tables.{Index}
 use Rattle.scope.specs.Walk.{question}
 use Rattle.scope.specs.Calls.{Asked, asked, SearchEnd, VerdictEnd, nearest_end, within_end, verdict_end, sky_answer}
 use Rattle.reading.specs.declared.Session.{Session}
 use Rattle.reading.specs.declared.Code.{Code}
+use Rattle.reading.specs.declared.Code.TheVariants.{One, Two}
 use Rattle.reading.specs.declared.Question.{Question}
 use Rattle.reading.specs.declared.Question.TheVariants.{Nearest, Within, Verdict, Sky}
 use Rattle.reading.specs.Offsets.{across_of, up_of}
@@ -17,8 +18,9 @@ abbrev pub shape_of : Session → Shape
 shape_of session = record { w = session.words; m = session.tables }
 
 -- the words of a code
-abbrev pub words_of : ℕ → Code → List ℕ
-words_of w code = cond (eqb w 2) (code.low ∷ code.high ∷ []) (code.low ∷ [])
+abbrev pub words_of : Code → List ℕ
+words_of (One words) = words
+words_of (Two words) = words
 
 -- the lists lent to a search
 abbrev pub lists : List ℕ → List ℕ → List ℕ → Lists
@@ -26,7 +28,7 @@ lists marks entries distances = record { marks = marks; entries = entries; dista
 
 -- the question of a code, with the lists
 abbrev pub asks : Index → Lists → Code → Asked
-asks x l code = asked (question x (words_of x.shape.w code)) l.marks l.entries l.distances
+asks x l code = asked (question x (words_of code)) l.marks l.entries l.distances
 
 -- what is printed, and the lists at the end
 pub record Reply : Type 0 where

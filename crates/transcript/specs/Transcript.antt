@@ -39,12 +39,12 @@ stars_with stars (Ok (Some (Head w m))) = stars
 stars_with stars (Ok (Some (Entry star code))) = stars ++ star ∷ []
 stars_with stars (Ok (Some (Ask question))) = stars
 
-abbrev pub codes_with : ℕ → List ℕ → Next → List ℕ
-codes_with w codes (Ok None) = codes
-codes_with w codes (Err f) = codes
-codes_with w codes (Ok (Some (Head v m))) = codes
-codes_with w codes (Ok (Some (Entry star code))) = codes ++ words_of w code
-codes_with w codes (Ok (Some (Ask question))) = codes
+abbrev pub codes_with : List ℕ → Next → List ℕ
+codes_with codes (Ok None) = codes
+codes_with codes (Err f) = codes
+codes_with codes (Ok (Some (Head w m))) = codes
+codes_with codes (Ok (Some (Entry star code))) = codes ++ words_of code
+codes_with codes (Ok (Some (Ask question))) = codes
 
 -- what is printed from here on, in at most k records
 unfoldable pub printed : ℕ → Session → List ℕ → List ℕ → List ℕ → List ℕ
@@ -52,7 +52,7 @@ printed zero session stars codes s = []
 printed (suc k) session stars codes s =
     text_in session stars codes s (record_of session s)
     ++ cond (ends (record_of session s)) []
-    (printed k (next_of session (record_of session s)) (stars_with stars (record_of session s)) (codes_with session.words codes (record_of session s)) (rest_of s))
+    (printed k (next_of session (record_of session s)) (stars_with stars (record_of session s)) (codes_with codes (record_of session s)) (rest_of s))
 
 -- no session goes on for longer: record 65,536 is bad
 unfoldable pub transcript : List ℕ → List ℕ

@@ -1,5 +1,6 @@
 -- One turn over lent lists: what a record leaves in each of them, and what is printed. Assumes nothing.
-use Rattle.std.specs.Prelude.{ℕ, ◌+◌, ◌*◌, ◌≡◌, cond, List, [], ◌++◌, eqb, length, take, set, replicate, Some, None, Ok, Err}
+use Rattle.std.specs.Prelude.{ℕ, ◌*◌, ◌≡◌, cond, List, [], ◌++◌, length, take, set, replicate, Some, None, Ok, Err}
+use Rattle.std.proofs.lemmas.List.Edits.{sets}
 use Rattle.theory.specs.Lists.{over}
 use Rattle.scope.specs.Tables.{Index, index}
 use Rattle.scope.specs.Calls.{build_end}
@@ -9,48 +10,49 @@ use Rattle.reading.specs.declared.Question.{Question}
 use Rattle.reading.specs.declared.Record.TheVariants.{Head, Entry, Ask}
 use Rattle.reading.specs.Records.{Next, record_of, chunk_of, rest_of, ends}
 use Rattle.lines.specs.Lines.{bad_line}
+use Rattle.transcript.specs.declared.Catalogue.{Catalogue}
 use Rattle.transcript.specs.declared.Lists.{Lists}
 use Rattle.transcript.specs.declared.Desk.{Desk}
 use Rattle.transcript.specs.declared.Turned.{Turned}
 use Rattle.reading.specs.State.{number_of, next_of}
 use Rattle.transcript.specs.Opening.{opening, ending}
-use Rattle.transcript.specs.Questions.{shape_of, Reply, reply}
+use Rattle.transcript.specs.Questions.{shape_of, words_of, Reply, reply}
 use Rattle.transcript.specs.Transcript.{fresh}
 
-abbrev pub desk : List ℕ → List ℕ → List ℕ → List ℕ → Lists → Desk
-desk stars codes starts ids l = record { stars = stars; codes = codes; starts = starts; ids = ids; lists = l }
+abbrev pub catalogue : List ℕ → List ℕ → List ℕ → List ℕ → Catalogue
+catalogue stars codes starts ids = record { stars = stars; codes = codes; starts = starts; ids = ids }
 
--- the catalogue: the places that entries have filled
-abbrev pub catalogue : Session → List ℕ → List ℕ → List ℕ → List ℕ → Index
-catalogue session stars codes starts ids =
-    index (shape_of session) (take session.entries stars) (take (session.entries * session.words) codes) starts ids
+abbrev pub desk : Catalogue → Lists → Desk
+desk c l = record { catalogue = c; lists = l }
+
+-- the places that entries have filled, with the tables
+abbrev pub index_of : Session → Catalogue → Index
+index_of session c = index (shape_of session) (take session.entries c.stars) (take (session.entries * session.words) c.codes) c.starts c.ids
 
 -- the code of entry e behind those before it
-abbrev pub code_kept : ℕ → ℕ → Code → List ℕ → List ℕ
-code_kept w e code l = cond (eqb w 2) (set (set l (2 * e) code.low) (2 * e + 1) code.high) (set l e code.low)
+abbrev pub code_kept : ℕ → Code → List ℕ → List ℕ
+code_kept e code l = sets l (length (words_of code) * e) (words_of code)
 
--- the tables, which the first question has built
-abbrev pub starts_for : Session → Desk → List ℕ
-starts_for session d = cond session.asked d.starts (build_end (catalogue session d.stars d.codes d.starts d.ids)).starts
+-- a catalogue with one entry more
+abbrev pub with_entry : Session → ℕ → Code → Catalogue → Catalogue
+with_entry session star code c = catalogue (set c.stars session.entries star) (code_kept session.entries code c.codes) c.starts c.ids
 
-abbrev pub ids_for : Session → Desk → List ℕ
-ids_for session d = cond session.asked d.ids (build_end (catalogue session d.stars d.codes d.starts d.ids)).ids
-
-abbrev pub index_for : Session → Desk → Index
-index_for session d = catalogue session d.stars d.codes (starts_for session d) (ids_for session d)
+-- a catalogue with its tables, which the first question has built
+abbrev pub tabled : Session → Catalogue → Catalogue
+tabled session c =
+    let built = build_end (index_of session c) in
+    catalogue c.stars c.codes (cond session.asked c.starts built.starts) (cond session.asked c.ids built.ids)
 
 abbrev pub reply_to : Session → Desk → Question → List ℕ → Reply
-reply_to session d question s = reply (number_of session) (index_for session d) d.lists question s
+reply_to session d question s = reply (number_of session) (index_of session (tabled session d.catalogue)) d.lists question s
 
 -- the lists after the record at the front of s
 abbrev pub desk_after : Session → Desk → List ℕ → Next → Desk
 desk_after session d s (Ok None) = d
 desk_after session d s (Err f) = d
 desk_after session d s (Ok (Some (Head w m))) = d
-desk_after session d s (Ok (Some (Entry star code))) =
-    desk (set d.stars session.entries star) (code_kept session.words session.entries code d.codes) d.starts d.ids d.lists
-desk_after session d s (Ok (Some (Ask question))) =
-    desk d.stars d.codes (starts_for session d) (ids_for session d) (reply_to session d question s).lists
+desk_after session d s (Ok (Some (Entry star code))) = desk (with_entry session star code d.catalogue) d.lists
+desk_after session d s (Ok (Some (Ask question))) = desk (tabled session d.catalogue) (reply_to session d question s).lists
 
 -- and what it prints
 abbrev pub text_of : Session → Desk → List ℕ → Next → List ℕ
@@ -88,4 +90,4 @@ pub data Ran : Session → Desk → List ℕ → List ℕ → Type 0 where
 
 -- the lists that the program begins with
 abbrev pub empty : Desk
-empty = desk (replicate 512 0) (replicate 1024 0) (replicate 4112 0) (replicate 16384 0) fresh
+empty = desk (catalogue (replicate 512 0) (replicate 1024 0) (replicate 4112 0) (replicate 16384 0)) fresh

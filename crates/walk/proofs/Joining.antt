@@ -29,21 +29,21 @@ module _ (i : ℕ) (test test' : ℕ → Bool) (same : (j : ℕ) → test' j ≡
 module _ (star stand : ℕ → ℕ) (test test' : ℕ → Bool) (i x : ℕ) (is : stand i ≡ x) (same : (j : ℕ) → test' j ≡ (test j || eqb j i)) (r : Rivals)
     (b : Best star stand test r) where
   -- it stands behind the runner-up, or behind the first with the first's star
-  pub stays : r.first ≤ x → ((star i ≡ r.star → ⊥) → r.other ≤ x) → Best star stand test' r
+  pub stays : r.first.0 ≤ x → ((star i ≡ r.star → ⊥) → r.other.0 ≤ x) → Best star stand test' r
   stays l k =
       record {
         order = b.order;
-        first = each i test test' same (λ j. r.first ≤ stand j) b.first (omega arith);
+        first = each i test test' same (λ j. r.first.0 ≤ stand j) b.first (omega arith);
         whose = ⊎_elim inl (λ w. inr (w.0, kept i test test' same w.0 w.1, w.2, w.3)) b.whose;
-        other = each i test test' same (λ j. (star j ≡ r.star → ⊥) → r.other ≤ stand j) b.other (λ ne. omega (arith, k ne));
+        other = each i test test' same (λ j. (star j ≡ r.star → ⊥) → r.other.0 ≤ stand j) b.other (λ ne. omega (arith, k ne));
         another = ⊎_elim inl (λ w. inr (w.0, kept i test test' same w.0 w.1, w.2, w.3)) b.another;
       }
 
-  pub stays_behind : r.other ≤ x → Best star stand test' r
+  pub stays_behind : r.other.0 ≤ x → Best star stand test' r
   stays_behind l = stays (omega (arith, b.order.0)) (λ _. l)
 
 -- where none passes
-pub best_none : (star stand : ℕ → ℕ) (test : ℕ → Bool) → ((i : ℕ) → test i ≡ false) → (r : Rivals) → r.first ≡ nobody → r.other ≡ nobody → Best star stand test r
+pub best_none : (star stand : ℕ → ℕ) (test : ℕ → Bool) → ((i : ℕ) → test i ≡ false) → (r : Rivals) → r.first.0 ≡ nobody → r.other.0 ≡ nobody → Best star stand test r
 best_none star stand test none r f o =
     record {
       order = (omega arith, omega arith);
@@ -68,18 +68,18 @@ module _ (star distance : ℕ → ℕ) (test : ℕ → Bool) (n N : ℕ) (few : 
   low : (i : ℕ) → (ltb (distance i) N && test i) ≡ true → standing distance i < 65536 * N
   low i h = omega (arith, ltb-true (distance i) N (and_left (ltb (distance i) N) (test i) h), theirs i (and_right (ltb (distance i) N) (test i) h))
 
-  there : r.other < 65536 * N → two_stars star (upto (λ i. ltb (distance i) N && test i) n) ≡ true
+  there : r.other.0 < 65536 * N → two_stars star (upto (λ i. ltb (distance i) N && test i) n) ≡ true
   there l =
-      ⊎_elim (λ (e : r.other ≡ nobody). absurd (omega arith))
-      (λ w. ⊎_elim (λ (e : r.first ≡ nobody). absurd (omega (arith, b.order.0)))
+      ⊎_elim (λ (e : r.other.0 ≡ nobody). absurd (omega arith))
+      (λ w. ⊎_elim (λ (e : r.first.0 ≡ nobody). absurd (omega (arith, b.order.0)))
       (λ v.
       two_stars_yes star (λ i. ltb (distance i) N && test i) n v.0 w.0 (theirs v.0 v.1) (nearer v.0 v.1 (omega (arith, v.2, b.order.0)))
       (theirs w.0 w.1) (nearer w.0 w.1 (omega (arith, w.2))) (λ e. w.3 (e ∙ v.3))) b.whose) b.another
 
-  back : two_stars star (upto (λ i. ltb (distance i) N && test i) n) ≡ true → r.other < 65536 * N
+  back : two_stars star (upto (λ i. ltb (distance i) N && test i) n) ≡ true → r.other.0 < 65536 * N
   back h =
       let (i, _, p, ne) = two_stars-other star (λ i. ltb (distance i) N && test i) n h r.star in
       omega (arith, low i p, b.other i (and_right (ltb (distance i) N) (test i) p) ne)
 
-  pub two_near : ltb r.other (65536 * N) ≡ two_stars star (upto (λ i. ltb (distance i) N && test i) n)
-  two_near = same_test _ _ (λ e. there (ltb-true r.other (65536 * N) e)) (λ e. lt-ltb r.other (65536 * N) (back e))
+  pub two_near : ltb r.other.0 (65536 * N) ≡ two_stars star (upto (λ i. ltb (distance i) N && test i) n)
+  two_near = same_test _ _ (λ e. there (ltb-true r.other.0 (65536 * N) e)) (λ e. lt-ltb r.other.0 (65536 * N) (back e))

@@ -1,5 +1,6 @@
 -- Laws behind the walk's functions.
 pub mod Asked
+pub mod Parts
 pub mod Buckets
 pub mod Joining
 pub mod Testing

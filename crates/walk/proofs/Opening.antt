@@ -88,9 +88,9 @@ module _ (ask : Question) (goal : Aim) (w : Walk) (marks : List ℕ) where
       }
 
   -- one bucket: it is bad, or its entries are tested
-  pub opening-refused : (z v : ℕ) (r : Walk) (marks' tally' : List ℕ) → bad ask.index z v ≡ true
-      → Opening ask goal ((z, v) ∷ []) w r (Refused (BadBucket z v)) marks marks' tally'
-  opening-refused z v r marks' tally' b = record { met = sym (rw (met_one, b)); clear = λ c. not_both c }
+  pub opening-refused : (z v : ℕ) (r : Walk) (marks' tally' : List ℕ) (f : Refusal) → f ≡ BadBucket z v → bad ask.index z v ≡ true
+      → Opening ask goal ((z, v) ∷ []) w r (Refused f) marks marks' tally'
+  opening-refused z v r marks' tally' f is b = record { met = sym (rw (met_one, b, is)); clear = λ c. not_both c }
 
   pub opening_one : (z v : ℕ) (r : Walk) (marks' tally' : List ℕ) → bad ask.index z v ≡ false → r.opened.0 ≡ w.opened.0 + 1
       → Sees ask goal (λ i. has i (bucket ask.index z v)) r.seen marks marks' tally'

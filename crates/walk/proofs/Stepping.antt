@@ -159,7 +159,7 @@ module _ (ask : Question) (goal : Aim) where
         (⊎_elim (λ (y : k ≤ w.seen.near). omega (arith, t.all, lower_mono places D M (limit + 1) N (omega arith)))
         (λ (y : limit ≡ r). absurd (let b = sense.1 in omega arith)) t.enough))
     enough_is aim.TwoStars top few early sense l (b, is) =
-        let other = w.seen.rivals.other in
+        let other = w.seen.rivals.other.0 in
         sym (two_near (star_of ask) (distance_of ask) (tested ask N) (n ask.index) N few (omega arith) (λ i e. theirs i (h.marked i ∙ e)) w.seen.rivals (best b))
         ∙ same_test _ _ (λ e. lt-ltb w.seen.limit N (omega (arith, is, ltb-true other (65536 * N) e))) (λ e. lt-ltb other (65536 * N) (omega (arith, is, ltb-true w.seen.limit N e)))
 

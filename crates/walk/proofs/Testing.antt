@@ -67,7 +67,7 @@ module _ (star distance : ℕ → ℕ) (m i : ℕ) (inside : i < m) (test test' 
 
     -- within the limit: it may be a rival
     pub known_stars : (d : ℕ) → d ≡ distance i → (b : Rivals) → Joins star i (65536 * d + i) s.rivals b
-        → Known aim.TwoStars star distance m test tally s.limit s.near s.rivals → Known aim.TwoStars star distance m test' tally (b.other / 65536) s.near b
+        → Known aim.TwoStars star distance m test tally s.limit s.near s.rivals → Known aim.TwoStars star distance m test' tally (b.other.0 / 65536) s.near b
     known_stars d e b joins known = (joins (standing distance) test test' (ap (λ (y : ℕ). 65536 * y + i) (sym e)) same known.0, refl)
 
     -- or one of the k nearest
@@ -171,7 +171,7 @@ module _ (goal : Aim) (star distance : ℕ → ℕ) (words : ℕ) (s : Seen) (ma
 
       module _ (d : ℕ) (e : d ≡ distance i) where
         pub tests-stars : goal ≡ aim.TwoStars → (b : Rivals) → Joins star i (65536 * d + i) s.rivals b
-            → Tests goal star distance words (λ j. eqb j i) (record { tested = record { 0 = s.tested.0 + 1 }; limit = b.other / 65536; near = s.near; rivals = b }) marks marks' tally
+            → Tests goal star distance words (λ j. eqb j i) (record { tested = record { 0 = s.tested.0 + 1 }; limit = b.other.0 / 65536; near = s.near; rivals = b }) marks marks' tally
         tests-stars is b joins =
             tests _ tally refl c.whole aim.TwoStars is
             (known_stars star distance (64 * words) i h (is_marked marks) (is_marked (with_mark marks i)) new now tally s d e b joins (known_as aim.TwoStars is))

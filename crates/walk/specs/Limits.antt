@@ -47,4 +47,4 @@ pub record Listing (distance : ℕ → ℕ) (m : ℕ) (test : ℕ → Bool) (tal
 abbrev pub Known : Aim → (star distance : ℕ → ℕ) (m : ℕ) (test : ℕ → Bool) (tally : List ℕ) (limit near : ℕ) → Rivals → Type 0
 Known (aim.Nearest k r) star distance m test tally limit near rivals =
     Listing distance m test tally k r limit near × (count (λ i. ltb (distance i) limit && test i) m < k)
-Known aim.TwoStars star distance m test tally limit near rivals = Best star (standing distance) test rivals × (limit ≡ rivals.other / 65536)
+Known aim.TwoStars star distance m test tally limit near rivals = Best star (standing distance) test rivals × (limit ≡ rivals.other.0 / 65536)

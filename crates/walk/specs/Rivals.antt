@@ -12,11 +12,11 @@ nobody = 16842752
 
 -- of the entries that pass the test, `first` is the least standing and `star` that entry's star, `other` the least standing of one with another star; or nobody's
 pub record Best (star standing : ℕ → ℕ) (test : ℕ → Bool) (r : Rivals) : Type 0 where
-  pub order : (r.first ≤ r.other) × (r.other ≤ nobody)
-  pub first : (i : ℕ) → test i ≡ true → r.first ≤ standing i
-  pub whose : (r.first ≡ nobody) ⊎ ((i : ℕ) × (test i ≡ true) × (r.first ≡ standing i) × (star i ≡ r.star))
-  pub other : (i : ℕ) → test i ≡ true → (star i ≡ r.star → ⊥) → r.other ≤ standing i
-  pub another : (r.other ≡ nobody) ⊎ ((i : ℕ) × (test i ≡ true) × (r.other ≡ standing i) × (star i ≡ r.star → ⊥))
+  pub order : (r.first.0 ≤ r.other.0) × (r.other.0 ≤ nobody)
+  pub first : (i : ℕ) → test i ≡ true → r.first.0 ≤ standing i
+  pub whose : (r.first.0 ≡ nobody) ⊎ ((i : ℕ) × (test i ≡ true) × (r.first.0 ≡ standing i) × (star i ≡ r.star))
+  pub other : (i : ℕ) → test i ≡ true → (star i ≡ r.star → ⊥) → r.other.0 ≤ standing i
+  pub another : (r.other.0 ≡ nobody) ⊎ ((i : ℕ) × (test i ≡ true) × (r.other.0 ≡ standing i) × (star i ≡ r.star → ⊥))
 
 -- from r to o entry i, of standing x, has come in
 abbrev pub Joins : (star : ℕ → ℕ) (i x : ℕ) → Rivals → Rivals → Type 0

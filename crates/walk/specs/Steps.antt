@@ -79,7 +79,7 @@ pub record Start (aim : Aim) (w : Walk) : Type 0 where
   pub tested : w.seen.tested.0 ≡ 0
   pub limit : w.seen.limit ≡ first_limit aim
   pub near : w.seen.near ≡ 0
-  pub rivals : (w.seen.rivals.first ≡ nobody) × (w.seen.rivals.other ≡ nobody)
+  pub rivals : (w.seen.rivals.first.0 ≡ nobody) × (w.seen.rivals.other.0 ≡ nobody)
 
 -- w is the walk after N steps, which met no bad bucket
 pub record Going (ask : Question) (aim : Aim) (N : ℕ) (w : Walk) (marks tally : List ℕ) : Type 0 where

@@ -1,81 +1,67 @@
 // The walk: the steps that open buckets, in order, and test the entries that these list. Steps serve the searches only.
 #![tactic(auto)]
 
-ghost use Rattle.std.specs.Prelude.{◌≡◌, false, not, ◌||◌, [], ◌∷◌, ℕ, ◌+◌, ◌*◌, ◌≤◌, ◌<◌, eqb, ltb, leb, get_or, map};
-ghost use Rattle.theory.specs.Lists.{between, has};
+ghost use Rattle.std.specs.Prelude.{◌≡◌, [], ◌∷◌, ℕ, ◌+◌, ◌*◌, ◌/◌, ◌%◌, ◌≤◌, ◌<◌, eqb, get_or, All};
+ghost use Rattle.theory.specs.Lists.{has};
 ghost use Rattle.scope.specs.Codes.{substring};
 ghost use Rattle.scope.specs.Search.{nearest_steps, within_steps};
 ghost use Rattle.scope.specs.Verdict.{verdict_steps};
 ghost use Rattle.scope.specs.Shape.{q, m, first_bit, len, size};
-ghost use Rattle.scope.specs.Tables as tables;
 ghost use Rattle.scope.specs.Tables.{n};
 ghost use Rattle.scope.specs.Refusals.{mark_words};
+ghost use Rattle.walk.specs.Buckets.{asked, numbers};
 ghost use Rattle.walk.specs.Rivals.{Joins};
 ghost use Rattle.walk.specs.Limits.{Countable, Counts};
 ghost use Rattle.walk.specs.Steps.{Seeing, Sees, Opening, around, Start, Going, Stepped, Fresh, Sensible, enough_after, steps_to, Walked};
 
 mod question;
+mod table;
 
 pub use question::Question;
 use scope::{Opened, Refusal, Tested};
 use shapes::Accepted;
-use std::ops::Range;
+use table::{Bucket, Table};
 
-// Whether an id of bucket v of table z is n or more, below the least allowed at its place, or has another substring.
-fn bad_id(index: &Accepted<'_>, z: usize, v: usize, least: usize, i: usize) -> bool
-    requires { z < m index.now.shape }
-    ensures { result ≡ (leb (n index.now) i || ltb i least || not (eqb (tables.substring_of index.now z i) v)) }
-{
-    if index.entries() <= i {
-        return true;
+// The most entries that a catalogue has.
+const ENTRIES: u32 = 65536;
+
+// An entry's distance and number as one number, ENTRIES * distance + number. NOBODY's is above every entry's, so that one comparison tells who stands before whom, where nobody does
+// too, and the limit is a quotient: a number, and no pair or Option.
+#[derive(Clone, Copy, Debug, PartialEq, Eq, PartialOrd, Ord)]
+pub struct Standing(pub u32);
+
+impl Standing {
+    pub const NOBODY: Standing = Standing(257 * ENTRIES);
+
+    // Entry i's, at distance d.
+    fn of(d: u32, i: usize) -> Standing
+        requires { (i < 65536) × (d ≤ 256) }
+        ensures { result.0 ≡ 65536 * d + i }
+    {
+        Standing(ENTRIES * d + i as u32)
     }
-    i < least || index.substring(z, i) != v
+
+    // The entry's distance; NOBODY's is 257, above every entry's.
+    pub fn distance(self) -> u32
+        ensures { result ≡ self.0 / 65536 }
+    {
+        self.0 / ENTRIES
+    }
+
+    // The entry's number.
+    pub fn entry(self) -> usize
+        ensures { result ≡ self.0 % 65536 }
+    {
+        (self.0 % ENTRIES) as usize
+    }
 }
-
-// The ids at places of table z's own part.
-fn ids_at<'a>(index: &Accepted<'a>, z: usize, places: Range<usize>) -> &'a [u32]
-    requires { (z < m index.now.shape) × (places.start ≤ places.end) × (places.end ≤ n index.now) }
-    ensures { result.now ≡ map (tables.id_at index.now z) (between places.start places.end) }
-{
-    let before = z * index.stars.len();
-    &index.ids[before + places.start..before + places.end]
-}
-
-// Whether bucket v of table z is bad. The ids are not read where the two starts are.
-fn bad_bucket(index: &Accepted<'_>, z: usize, v: usize) -> bool
-    requires { (z < m index.now.shape) × (v < size index.now.shape z) }
-    ensures { result ≡ tables.bad index.now z v }
-{
-    let places = index.places(z, v);
-    if places.end < places.start {
-        return true;
-    }
-    if index.entries() < places.end {
-        return true;
-    }
-    let mut least = 0;
-    for id in ids_at(index, z, places) {
-        let i = *id as usize;
-        if bad_id(index, z, v, least, i) {
-            return true;
-        }
-        least = i + 1;
-    }
-    false
-}
-
-// An entry's distance and number make one number, its standing: ENTRIES * distance + number, a catalogue having no more entries than that. NOBODY's is above every entry's, so that
-// one comparison tells who stands before whom, where nobody does too, and the limit is a quotient: a number, and no pair or Option.
-pub const ENTRIES: u32 = 65536;
-
-pub const NOBODY: u32 = 257 * ENTRIES;
 
 // Of the tested entries the nearest, by its standing and star, and its runner-up, the nearest with another star, by its standing; or NOBODY.
-#[derive(Clone, Copy)]
+#[derive(Clone, Copy, Debug, PartialEq, Eq)]
 pub struct Rivals {
-    pub first: u32,
+    pub first: Standing,
     pub star: u32,
-    pub other: u32,
+    pub other: Standing,
 }
 
 impl Rivals {
@@ -84,7 +70,7 @@ impl Rivals {
         requires { (i < n index.now) × (i < 65536) × (d ≤ 256) }
         ensures { Joins (λ (j : ℕ). get_or index.now.stars j 0) i (65536 * d + i) self result }
     {
-        let standing = ENTRIES * d + i as u32;
+        let standing = Standing::of(d, i);
         if self.other <= standing {
             return self;
         }
@@ -125,7 +111,7 @@ const ALL: u32 = ENTRIES + 1;
 
 // What is known of the tested entries: how many they are, and the limit, the worst distance that can still be listed; by the aim, how many are within it, or the nearest and its
 // runner-up. Both stand here: an enum of the two would be taken apart and made again at each entry.
-#[derive(Clone, Copy)]
+#[derive(Clone, Copy, Debug, PartialEq, Eq)]
 pub struct Seen {
     pub tested: Tested,
     pub limit: u32,
@@ -133,8 +119,7 @@ pub struct Seen {
     pub rivals: Rivals,
 }
 
-// Marks and tally are lent one by one: a struct of both would have to say in each clause that it still lends the same ones. And z and v are numbers, which name a bucket only
-// together with the index.
+// Marks and tally are lent one by one: a struct of both would have to say in each clause that it still lends the same ones.
 impl Seen {
     // One more is at distance d, within the limit, which then goes down as far as k stay within it. The tally has how many are at each distance.
     fn count(self, k: u32, d: u32, tally: &mut [u32]) -> Seen
@@ -187,7 +172,7 @@ impl Seen {
             Aim::TwoStars => {
                 let best = self.rivals.join(index, i, d);
                 Seen {
-                    limit: best.other / ENTRIES,
+                    limit: best.other.distance(),
                     rivals: best,
                     ..seen
                 }
@@ -195,24 +180,21 @@ impl Seen {
         }
     }
 
-    // Tests the entries that bucket v of table z lists.
+    // Tests these entries.
     fn test_all(
         self,
         ask: &Question<'_>,
         aim: Aim,
-        z: usize,
-        v: usize,
+        ids: &[u32],
         marks: &mut [u64],
         tally: &mut [u32],
     ) -> Seen
-        requires z_bound { (z < m ask.now.index.shape) × (v < size ask.now.index.shape z) }
-        requires not_bad { tables.bad ask.now.index z v ≡ false }
+        requires theirs { All (λ i. i < n ask.now.index) ids.now }
         requires counted { Seeing ask.now aim self marks.old tally.old }
-        ensures { Sees ask.now aim (λ (i : ℕ). has i (tables.bucket ask.now.index z v)) result marks.old marks.new tally.new }
+        ensures { Sees ask.now aim (λ (i : ℕ). has i ids.now) result marks.old marks.new tally.new }
     {
-        let index = &ask.index;
         let mut seen = self;
-        for id in ids_at(index, z, index.places(z, v)) {
+        for id in ids {
             seen = seen.test(ask, aim, *id as usize, marks, tally);
         }
         seen
@@ -220,61 +202,56 @@ impl Seen {
 }
 
 // The state of the walk: how many buckets its steps opened, and what is known of the entries that these list.
-#[derive(Clone, Copy)]
+#[derive(Clone, Copy, Debug, PartialEq, Eq)]
 pub struct Walk {
     pub opened: Opened,
     pub seen: Seen,
 }
 
 impl Walk {
-    // Opens bucket v of table z: it is bad, or its entries are tested.
+    // Opens a bucket: it is bad, or its entries are tested.
     fn open(
         &mut self,
-        ask: &Question<'_>,
+        bucket: &Bucket<'_>,
         aim: Aim,
-        z: usize,
-        v: usize,
         marks: &mut [u64],
         tally: &mut [u32],
     ) -> Result<(), Refusal>
-        requires z_bound { (z < m ask.now.index.shape) × (v < size ask.now.index.shape z) × (self.old.opened.0 < 16842752) }
-        requires counted { Seeing ask.now aim self.old.seen marks.old tally.old }
-        ensures { Opening ask.now aim ((z, v) ∷ []) self.old self.new result marks.old marks.new tally.new }
+        requires room { self.old.opened.0 < 16842752 }
+        requires counted { Seeing (asked bucket.now.table.now) aim self.old.seen marks.old tally.old }
+        ensures { Opening (asked bucket.now.table.now) aim (numbers bucket.now ∷ []) self.old self.new result marks.old marks.new tally.new }
     {
-        let index = &ask.index;
-        if bad_bucket(index, z, v) {
-            let table = z as u32;
-            let bucket = v as u32;
-            return Err(Refusal::BadBucket { table, bucket });
+        if bucket.is_bad() {
+            return Err(bucket.refusal());
         }
-        self.seen = self.seen.test_all(ask, aim, z, v, marks, tally);
+        let ask = bucket.table.ask;
+        self.seen = self.seen.test_all(ask, aim, bucket.entries(), marks, tally);
         self.opened = Opened(self.opened.0 + 1);
         Ok(())
     }
 
-    // Opens the buckets of table z that differ from the query's substring in r bits, ascending by the exclusive-or, up to the first bad one.
+    // Opens the buckets of a table that differ from the query's substring in r bits, ascending by the exclusive-or, up to the first bad one.
     fn open_all(
         &mut self,
-        ask: &Question<'_>,
+        table: &Table<'_>,
         aim: Aim,
-        z: usize,
         r: u32,
         marks: &mut [u64],
         tally: &mut [u32],
     ) -> Result<(), Refusal>
-        requires z_bound { (z < m ask.now.index.shape) × (self.old.opened.0 ≤ 16777216) }
-        requires counted { Seeing ask.now aim self.old.seen marks.old tally.old }
-        ensures { let sh = ask.now.index.shape in Opening ask.now aim (around z r (substring (first_bit sh z) (len sh z) ask.now.query) (size sh z)) self.old self.new result marks.old marks.new tally.new }
+        requires room { self.old.opened.0 ≤ 16777216 }
+        requires counted { Seeing (asked table.now) aim self.old.seen marks.old tally.old }
+        ensures { let ask = asked table.now in let z = table.now.z in let sh = ask.index.shape in
+            Opening ask aim (around z r (substring (first_bit sh z) (len sh z) ask.query) (size sh z)) self.old self.new result marks.old marks.new tally.new }
     {
-        let sub = ask.substring(z);
-        let index = &ask.index;
-        let buckets = index.shape.buckets(z);
+        let sub = table.substring();
+        let buckets = table.buckets();
         // every bit counts
-        let under = buckets - 1;
+        let under = (buckets - 1) as u16;
         // by hand: `successors` would work out the number after the last one too, and `next` is asked below 65536 only
         let mut e = masks::first(under, r);
         while e < buckets {
-            self.open(ask, aim, z, sub ^ e, marks, tally)?;
+            self.open(&table.bucket(sub ^ e), aim, marks, tally)?;
             e = masks::next(under, r, e);
         }
         Ok(())
@@ -286,12 +263,12 @@ impl Walk {
     {
         let limit = match aim {
             Aim::Nearest(_, r) => r,
-            Aim::TwoStars => NOBODY / ENTRIES,
+            Aim::TwoStars => Standing::NOBODY.distance(),
         };
         let rivals = Rivals {
-            first: NOBODY,
+            first: Standing::NOBODY,
             star: 0,
-            other: NOBODY,
+            other: Standing::NOBODY,
         };
         Walk {
             opened: Opened(0),
@@ -306,7 +283,6 @@ impl Walk {
 }
 
 // Takes steps until the limit is below the next one, so that nothing farther can be listed, or step top is taken, or a bad bucket is met.
-#[inline(always)]
 fn take_steps(
     ask: &Question<'_>,
     aim: Aim,
@@ -318,7 +294,8 @@ fn take_steps(
     requires fresh { Fresh (mark_words (n ask.now.index)) marks.old tally.old }
     ensures { Walked ask.now aim (steps_to (enough_after ask.now aim) top) result marks.new tally.new }
 {
-    let index = &ask.index;
+    let own = ask.again();
+    let index = &own.index;
     let m = index.shape.m();
     let mut w = Walk::start(aim);
     for at in 0..=top {
@@ -327,30 +304,14 @@ fn take_steps(
         }
         // step m * r + a opens in table a the buckets that differ from the query's substring in r bits
         let step = at as usize;
-        let a = step % m;
+        let table = Table::of(&own, step % m);
         let r = (step / m) as u32;
-        w.open_all(ask, aim, a, r, marks, tally)?;
+        w.open_all(&table, aim, r, marks, tally)?;
     }
     Ok(w)
 }
 
-// The same with a question of the walk's own: nothing that is written can lie in it, so that what a table's number and the shape make is worked out once a step.
-fn until(
-    ask: &Question<'_>,
-    aim: Aim,
-    top: u32,
-    marks: &mut [u64],
-    tally: &mut [u32],
-) -> Result<Walk, Refusal>
-    requires top_bound { (top ≤ 256) × Sensible aim top }
-    requires fresh { Fresh (mark_words (n ask.now.index)) marks.old tally.old }
-    ensures { Walked ask.now aim (steps_to (enough_after ask.now aim) top) result marks.new tally.new }
-{
-    let own = ask.again();
-    take_steps(&own, aim, top, marks, tally)
-}
-
-// Three walks, since each promises steps of its own, which `until` takes. That of a search for the k nearest, k being at most n: no step where k is 0.
+// Three walks, since each promises steps of its own, which `take_steps` takes. That of a search for the k nearest, k being at most n: no step where k is 0.
 pub fn nearest(
     ask: &Question<'_>,
     k: u32,
@@ -367,7 +328,7 @@ pub fn nearest(
     if k == 0 {
         return Ok(Walk::start(aim));
     }
-    until(ask, aim, top, marks, tally)
+    take_steps(ask, aim, top, marks, tally)
 }
 
 // The walk of a search within r: every step to r, and none where there are no entries.
@@ -386,7 +347,7 @@ pub fn within(
     if index.entries() == 0 {
         return Ok(Walk::start(aim));
     }
-    until(ask, aim, r, marks, tally)
+    take_steps(ask, aim, r, marks, tally)
 }
 
 // The walk of a verdict: until tested entries of two different stars are near, and no step where there are no entries.
@@ -398,5 +359,5 @@ pub fn verdict(ask: &Question<'_>, marks: &mut [u64], tally: &mut [u32]) -> Resu
     if index.entries() == 0 {
         return Ok(Walk::start(Aim::TwoStars));
     }
-    until(ask, Aim::TwoStars, index.shape.q(), marks, tally)
+    take_steps(ask, Aim::TwoStars, index.shape.q(), marks, tally)
 }

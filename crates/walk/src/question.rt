@@ -1,9 +1,7 @@
 // What is asked: an index and a query of as many words as a code.
 ghost use Rattle.std.specs.Prelude.{◌≡◌, ◌<◌, Ok, Err};
 ghost use Rattle.codes.specs.Distances.{limited};
-ghost use Rattle.scope.specs.Codes as spec;
 ghost use Rattle.scope.specs.Refusals.{unless, wrong_query};
-ghost use Rattle.scope.specs.Shape.{m, first_bit, len};
 ghost use Rattle.scope.specs.Tables.{n};
 ghost use Rattle.scope.specs.Walk.{question, distance_of};
 
@@ -40,7 +38,7 @@ impl<'a> Question<'a> {
         Ok(Question { index, query })
     }
 
-    // A question of one's own, the same.
+    // The same question, held by value: what lies behind a reference is read again after each write to marks or tally. By hand, since a derived clone may fail.
     pub(crate) fn again(&self) -> Question<'a>
         ensures { result ≡ self.now }
     {
@@ -58,23 +56,12 @@ impl<'a> Question<'a> {
         }
     }
 
-    // The query's substring z.
-    pub(crate) fn substring(&self, z: usize) -> usize
-        requires { z < m self.now.index.shape }
-        ensures { result ≡ spec.substring (first_bit self.now.index.shape z) (len self.now.index.shape z) self.now.query }
-    {
-        let index = &self.index;
-        let shape = index.shape;
-        codes::substring(self.query, shape.first_bit(z), shape.bits(z))
-    }
-
     // Entry i's distance from the query, up to a limit.
     pub(crate) fn distance(&self, i: usize, limit: u32) -> Option<u32>
         requires { i < n self.now.index }
         ensures { result ≡ limited limit (distance_of self.now i) }
     {
         let index = &self.index;
-        let shape = index.shape;
-        codes::distance(index.codes, i, shape.words(), self.query, limit)
+        index.codes().distance(i, self.query, limit)
     }
 }

@@ -56,34 +56,19 @@ loop-i-init c =
     start (H s) _ _ _ _ c.div_ceil.result (omega arith) c.clear.ensures
 
 pub overflow_mul-place : goal.overflow_mul-place
-overflow_mul-place c =
-    let s : Start = search in
-    let p = part_in s c.in_ok-refused.ensures c.index.view_is c.loop-i-test.true in
-    omega arith
+overflow_mul-place c = omega (arith, part_in (search) c.in_ok-refused.ensures c.index.view_is c.loop-i-test.true)
 
 pub slice_bounds-answer-end-in-loop-i : goal.slice_bounds-answer-end-in-loop-i
-slice_bounds-answer-end-in-loop-i c =
-    let s : Start = search in
-    let p = four_in s c.in_ok-refused.ensures c.index.view_is c.loop-i-test.true in
-    omega arith
+slice_bounds-answer-end-in-loop-i c = omega (arith, four_in (search) c.in_ok-refused.ensures c.index.view_is c.loop-i-test.true)
 
 pub overflow_add-place : goal.overflow_add-place
-overflow_add-place c =
-    let s : Start = search in
-    let p = part_in s c.in_ok-refused.ensures c.index.view_is c.loop-i-test.true in
-    omega arith
+overflow_add-place c = omega (arith, part_in (search) c.in_ok-refused.ensures c.index.view_is c.loop-i-test.true)
 
 pub offset_bounds-records-place : goal.offset_bounds-records-place
-offset_bounds-records-place c =
-    let s : Start = search in
-    let p = part_in s c.in_ok-refused.ensures c.index.view_is c.loop-i-test.true in
-    omega arith
+offset_bounds-records-place c = omega (arith, part_in (search) c.in_ok-refused.ensures c.index.view_is c.loop-i-test.true)
 
 pub slice_bounds-answer-end-in-loop-i-2 : goal.slice_bounds-answer-end-in-loop-i-2
-slice_bounds-answer-end-in-loop-i-2 c =
-    let s : Start = search in
-    let p = part_in s c.in_ok-refused.ensures c.index.view_is c.loop-i-test.true in
-    omega arith
+slice_bounds-answer-end-in-loop-i-2 c = omega (arith, part_in (search) c.in_ok-refused.ensures c.index.view_is c.loop-i-test.true)
 
 pub answer-requires : goal.answer-requires
 answer-requires c =
@@ -101,7 +86,7 @@ loop-i-preserved c =
     let h = clear_fine (H s) c.in_ok-refused.ensures in
     let w = ap w_of c.index.view_is in
     let a = c.answer.ensures in
-    next (H s) h c.loop-i.outcomes (query_in (H s) _ _ w c.loop-i-test.true) _ (query_is (H s) _ _ w) c.loop-i.invariant (sym c.loop-i.auto.records) a.marks_after a.told_after a.entries_after
+    next (H s) h c.loop-i.outcomes (query_in (H s) _ _ w c.loop-i-test.true) _ (query_is (H s) _ _ w) c.loop-i.invariant (sym c.loop-i.auto.records) a.marks_after a.outcome_after a.entries_after
     a.distances_after a.records_after
 
 pub returns : goal.returns

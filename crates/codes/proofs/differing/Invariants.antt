@@ -2,8 +2,8 @@
 use mathlib.Core.Path.{◌≡◌}
 use Prim.Native.Nat.{◌*◌}
 use lib.ListN.{length}
-use Rattle.scope.specs.Codes.{distance, code_of}
+use Rattle.scope.specs.Codes.{distance}
 use Rattle.codes.proofs.differing.Given as goal
 
 abbrev pub invariant-loop-a : goal.invariant-loop-a
-invariant-loop-a l = l.r ≡ distance (64 * length l.yielded) (code_of l.w l.codes l.i) l.query
+invariant-loop-a l = l.r ≡ distance (64 * length l.yielded) l.code l.query

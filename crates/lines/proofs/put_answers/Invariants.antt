@@ -4,4 +4,4 @@ use Rattle.lines.proofs.Writing.{Listing}
 use Rattle.lines.proofs.put_answers.Given as goal
 
 abbrev pub invariant-loop-entry : goal.invariant-loop-entry
-invariant-loop-entry l = Listing l.initial.out l.at l.stars l.entries l.distances l.n l.out l.place (length l.yielded)
+invariant-loop-entry l = Listing l.initial.out l.at l.stars l.entries l.distances (length l.entries) l.out l.place (length l.yielded)

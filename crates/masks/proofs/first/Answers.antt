@@ -1,4 +1,5 @@
 -- `masks::first` meets its contract. Assumes nothing.
+use native.Mathlib.Omega.{arith}
 use Rattle.masks.proofs.Firsts.{first-over, first-lowest}
 use Rattle.masks.proofs.first.Goals as goal
 
@@ -6,4 +7,4 @@ pub returns-then-under-r : goal.returns-then-under-r
 returns-then-under-r c = first-over _ _ c.if-under-r.true
 
 pub returns : goal.returns
-returns c = first-lowest _ _ _ c.requires c.lowest.ensures
+returns c = first-lowest _ _ _ (omega arith) c.lowest.ensures

@@ -11,7 +11,7 @@ use Rattle.masks.proofs.next.Goals as goal
 use Rattle.masks.proofs.next.Goals.{After-place-p}
 
 by : (c : After-place-p) → Steps c.args.under c.args.r c.args.e c.place-p.result
-by c = rw c.place-p.ensures (steps c.args.under c.args.r c.args.e c.requires.0 c.requires.1 c.requires.2)
+by c = rw c.place-p.ensures (steps c.args.under c.args.r c.args.e (omega arith) c.requires.0 c.requires.1)
 
 -- the shift stays within the word
 shifted : (c : After-place-p) → (c.args.e / 2 ^ c.place-p.result + 1) * 2 ^ c.place-p.result % 18446744073709551616 ≡ (by c).up

@@ -15,7 +15,7 @@ abbrev At : Start → ℕ
 At c = count_trailing_zeros 64 (bit_and c.args.e c.args.under + 65536)
 
 low : (c : Start) → At c ≤ 16
-low c = (filling c.args.under c.args.e c.requires.0).0
+low c = (filling c.args.under c.args.e (omega arith)).0
 
 -- the shift stays within the word
 shifted : (c : Start) → 1 * 2 ^ At c % 18446744073709551616 ≡ 2 ^ At c

@@ -1,62 +1,53 @@
 -- `search::accept` meets its contract: its tests are the rows of refusals 1 to 5. Assumes nothing.
 use Rattle.std.specs.Prelude.{Ok, Err}
-use mathlib.Core.Path.{sym, ap, ◌∙◌}
+use mathlib.Core.Path.{◌≡◌, sym, ap, ◌∙◌}
+use mathlib.Core.Bool.{cond}
 use mathlib.Core.List.{[], ◌∷◌}
-use native.Mathlib.Omega.{arith}
+use lib.Dec.{ltb}
 use lib.ListN.{length}
 use borrow.Author.Tests.{lt-ltb, le-ltb}
-use Rattle.theory.specs.Lists.{any}
+use Rattle.theory.proofs.Lists.{any_one}
+use Rattle.scope.specs.declared.Refusal.TheVariants.{Query, Room}
 use Rattle.scope.specs.Shape.{q}
-use Rattle.scope.specs.Tables.{n}
-use Rattle.scope.specs.Walk.{question}
-use Rattle.scope.specs.Refusals.{unless, one_to_three, wrong_query, mark_words}
+use Rattle.scope.specs.Tables.{Index, n}
+use Rattle.scope.specs.Walk.{Question, question}
+use Rattle.scope.specs.Refusals.{unless, one_to_three, one_to_five, wrong_query, mark_words}
 use Rattle.scope.proofs.Rows.{passed_on}
-use Rattle.walk.proofs.Asked.{of_asked, of_index}
 use Rattle.search.proofs.Refusing.{given, first_three, first_four, past_four}
 use Rattle.search.proofs.accept.Goals as goal
+use Rattle.search.proofs.accept.Goals.{After-q}
+
+-- past refusals 1 to 3, and past 4 for the query, two tests are left
+tests : (c : After-q) → let x = c.args.index.now in let query = c.args.query.now in let marks = c.args.marks.now in
+    unless (one_to_five x query (c.args.limit ∷ []) marks) Err (Ok (question x query))
+    ≡ cond (ltb c.q.result c.args.limit) (Err Query) (cond (ltb (length marks) (mark_words (n c.ask.inside.index))) (Err Room) (Ok c.in_ok-ask.ask))
+unfolding unless
+tests c =
+    let x = c.args.index.now in
+    let query = c.args.query.now in
+    let (none, index) = given (one_to_three x) c.in_ok-index.ensures in
+    let (none', ask) = given (wrong_query x.shape query) (rw index at c.in_ok-ask.ensures) in
+    let inside = ap (λ (a : Question). a.index) (c.ask.view_is ∙ ask) in
+    let top = c.q.ensures.value ∙ ap (λ (i : Index). q i.shape) (c.index.view_is ∙ inside) in
+    past_four x query (c.args.limit ∷ []) c.args.marks.now Err (Ok (question x query)) none none' ∙ rw (any_one, top, inside, ask)
 
 pub returns-in_err-index : goal.returns-in_err-index
 returns-in_err-index c = passed_on c.from_residual.ensures.1 ∙ sym (first_three _ _ _ _ _ _ c.in_err-index.ensures)
 
 pub returns-in_err-ask : goal.returns-in_err-ask
 returns-in_err-ask c =
-    let k = given (one_to_three c.args.index.now) c.in_ok-index.ensures in
-    let e = rw k.1 at c.in_err-ask.ensures in
-    passed_on c.from_residual-in_err-ask.ensures.1 ∙ sym (first_four _ _ _ _ _ _ k.0 _ e)
+    let (none, index) = given (one_to_three c.args.index.now) c.in_ok-index.ensures in
+    passed_on c.from_residual-in_err-ask.ensures.1 ∙ sym (first_four _ _ _ _ _ _ none _ (rw index at c.in_err-ask.ensures))
 
 pub returns-then-q-limit : goal.returns-then-q-limit
-unfolding unless any
-returns-then-q-limit c =
-    let x = c.args.index.now in
-    let query = c.args.query.now in
-    let k = given (one_to_three x) c.in_ok-index.ensures in
-    let a = given (wrong_query x.shape query) (rw k.1 at c.in_ok-ask.ensures) in
-    let past = past_four x query (c.args.limit ∷ []) c.args.marks.now Err (Ok (question x query)) k.0 a.0 in
-    let top = rw a.1 at (of_index (λ x. q x.shape) c.index.view_is c.ask.view_is c.q.ensures.value) in
-    sym (past ∙ rw (lt-ltb (q x.shape) c.args.limit (omega arith)))
+returns-then-q-limit c = sym (tests (goal.at.returns-then-q-limit c).After-q ∙ rw (lt-ltb _ _ c.if-q-limit.true))
 
-pub returns-then-marks-div_ceil : goal.returns-then-marks-div_ceil
-unfolding unless any
-returns-then-marks-div_ceil c =
-    let x = c.args.index.now in
-    let query = c.args.query.now in
-    let k = given (one_to_three x) c.in_ok-index.ensures in
-    let a = given (wrong_query x.shape query) (rw k.1 at c.in_ok-ask.ensures) in
-    let past = past_four x query (c.args.limit ∷ []) c.args.marks.now Err (Ok (question x query)) k.0 a.0 in
-    let top = rw a.1 at (of_index (λ x. q x.shape) c.index.view_is c.ask.view_is c.q.ensures.value) in
-    let many = rw a.1 at (of_asked n c.ask.view_is c.entries.ensures.value) in
-    let words = c.div_ceil.ensures in
-    sym (past ∙ rw (le-ltb (q x.shape) c.args.limit (omega arith), lt-ltb (length c.args.marks.now) (mark_words (n x)) (omega arith)))
+pub returns-then-marks-mark_words : goal.returns-then-marks-mark_words
+returns-then-marks-mark_words c =
+    let few = rw c.mark_words.ensures at c.if-marks-mark_words.true in
+    sym (tests (goal.at.returns-then-marks-mark_words c).After-q ∙ rw (le-ltb _ _ c.if-q-limit.false, lt-ltb _ _ few))
 
 pub returns : goal.returns
-unfolding unless any
 returns c =
-    let x = c.args.index.now in
-    let query = c.args.query.now in
-    let k = given (one_to_three x) c.in_ok-index.ensures in
-    let a = given (wrong_query x.shape query) (rw k.1 at c.in_ok-ask.ensures) in
-    let past = past_four x query (c.args.limit ∷ []) c.args.marks.now Err (Ok (question x query)) k.0 a.0 in
-    let top = rw a.1 at (of_index (λ x. q x.shape) c.index.view_is c.ask.view_is c.q.ensures.value) in
-    let many = rw a.1 at (of_asked n c.ask.view_is c.entries.ensures.value) in
-    let words = c.div_ceil.ensures in
-    ap Ok a.1 ∙ sym (past ∙ rw (le-ltb (q x.shape) c.args.limit (omega arith), le-ltb (length c.args.marks.now) (mark_words (n x)) (omega arith)))
+    let room = rw c.mark_words.ensures at c.if-marks-mark_words.false in
+    sym (tests (goal.at.returns c).After-q ∙ rw (le-ltb _ _ c.if-q-limit.false, le-ltb _ _ room))

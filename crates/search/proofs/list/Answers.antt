@@ -1,26 +1,37 @@
 -- `search::list` meets its contract. Assumes nothing.
-use mathlib.Core.Path.{◌≡◌, refl, sym, ap, ◌∙◌}
-use mathlib.Core.List.{[]}
-use lib.ListN.{length}
-use Prim.Native.Nat.{ℕ}
-use Rattle.theory.specs.Lists.{padded}
-use Rattle.theory.proofs.Lists.{over-padded}
-use Rattle.scope.specs.Refusals.{mark_words}
-use Rattle.scope.specs.Tables.{n}
-use Rattle.walk.proofs.Asked.{of_asked}
+use mathlib.Core.Path.{refl, ◌∙◌}
+use Rattle.std.proofs.Common.{rules}
+use Rattle.theory.proofs.Filling.{zeros}
 use Rattle.search.proofs.Listing
 use Rattle.search.proofs.list.Goals as goal
 
+-- ---- a bad bucket was met: zeros
+
+pub returns-in-Err-clause-marks_after : goal.returns-in-Err-clause-marks_after
+returns-in-Err-clause-marks_after c = c.fill.ensures.after (λ y h. search rules) ∙ zeros _
+
+pub returns-in-Err-clause-entries_after : goal.returns-in-Err-clause-entries_after
+returns-in-Err-clause-entries_after c = rw c.in-Err.is (c.fill-in-Err.ensures.after (λ y h. search rules) ∙ zeros _)
+
+pub returns-in-Err-clause-distances_after : goal.returns-in-Err-clause-distances_after
+returns-in-Err-clause-distances_after c = rw (c.in-Err.is, ← c.requires.places) (c.fill-in-Err-2.ensures.after (λ y h. search rules) ∙ zeros _)
+
+-- ---- the marked entries in their order
+
 pub rank-requires : goal.rank-requires
 rank-requires c =
-    let a = rw c.ask.view_is at c.ask.invariant in
-    let l = rw c.in-Ok.is at c.requires.listable in
-    let (le, ld) = c.requires.places_in_bounds in
-    let r = Listing.rankable _ _ _ _ l a _ _ _ _ refl le ld in
-    rw (c.words.ensures, c.entries.ensures.value, ← c.index.view_is) (rw (← c.ask.view_is, ← c.index.view_is) at r)
+    let l = rw (← c.ask.view_is) at (rw c.in-Ok.is at c.requires.listable) in
+    let (codes, w) = c.codes.ensures in
+    rw (codes, w) (Listing.rankable _ _ _ _ l c.ask.invariant _ _ _ refl c.requires.places)
 
-pub returns-clause-marks_after : goal.returns-clause-marks_after
-returns-clause-marks_after c =
-    let l = rw c.in-Ok.is at c.requires.listable in
-    let long : length c.args.marks.now ≡ mark_words c.entries.result = rw (of_asked n c.ask.view_is c.entries.ensures.value) l.long in
-    c.rank.ensures.cleared ∙ over-padded _ [] _ long ∙ ap (λ (k : ℕ). padded k []) (sym long)
+pub returns : goal.returns
+returns c =
+    let l = rw (← c.ask.view_is) at (rw c.in-Ok.is at c.requires.listable) in
+    let (codes, w) = c.codes.ensures in
+    let (entries, distances) = Listing.listed_in _ _ _ _ l (rw (codes, w) at c.rank.ensures) in
+    record {
+      same = search rules;
+      marks_after = c.rank.ensures.cleared;
+      entries_after = rw (c.in-Ok.is, ← c.ask.view_is) entries;
+      distances_after = rw (c.in-Ok.is, ← c.ask.view_is) distances;
+    }

@@ -1,57 +1,42 @@
 -- `search::list_within` meets its contract. Assumes nothing.
-use mathlib.Core.Path.{◌≡◌, refl, sym, ap, ◌∙◌}
-use mathlib.Core.List.{[]}
-use Prim.Native.Nat.{ℕ, min}
+use mathlib.Core.Path.{◌≡◌, sym, ap, ◌∙◌}
+use Prim.Native.Nat.{◌≤◌, ◌<◌}
 use native.Mathlib.Omega.{arith}
 use lib.ListN.{length}
 use borrow.Author.Rules.{rules}
-use Rattle.theory.specs.Lists.{cat, over, padded}
-use Rattle.scope.specs.Tables.{n}
-use Rattle.scope.proofs.Ends.{end_is}
+use borrow.Author.Tests.{lt-ltb, le-ltb}
+use Rattle.std.specs.Prelude.{Result}
+use Rattle.scope.specs.declared.Refusal.{Refusal}
+use Rattle.scope.specs.declared.Report.{Report}
+use Rattle.scope.specs.Calls.{asked, leaves}
 use Rattle.scope.proofs.Rows.{passed_on}
-use Rattle.walk.proofs.Asked.{of_asked}
+use Rattle.search.specs.Past.{within_past}
 use Rattle.search.proofs.Listing
 use Rattle.search.proofs.list_within.Goals as goal
+use Rattle.search.proofs.list_within.Goals.{After-list}
 
-pub within-walked-requires-clause-fresh : goal.within-walked-requires-clause-fresh
-unfolding cat
-within-walked-requires-clause-fresh c =
-    Listing.fresh _ c.args.marks.now _ _ c.requires.marks_len (c.clear.ensures ∙ ap (λ (k : ℕ). over (padded k []) c.args.marks.now) c.requires.marks_len) refl
-
--- the places are as many as entries, or as both lists hold
-places : (k m room P : ℕ) → k ≡ m → P ≡ min room k → P ≡ min m room
-places k m room P e p = omega arith
+-- once `list` is done, all is as it should be, with the answer that the walk gives
+after : (c : After-list) → (o : Result Report Refusal) → o ≡ Listing.found_within (length c.args.entries.now) c.list.result
+    → leaves o c.list.new.marks c.list.new.entries c.list.new.distances
+    ≡ within_past (asked c.args.ask.now c.args.marks.now c.args.entries.now c.args.distances.now) c.args.r
+after c o e =
+    let (_, some, few) = c.requires.bounds in
+    let long : length c.within-walked.new.marks ≡ length c.args.marks.now = search rules in
+    let l = c.list.ensures in
+    Listing.list_leaves c.args.ask.now c.requires.cut _ _ long l.marks_after l.entries_after l.distances_after
+    (e ∙ ap (Listing.found_within (length c.args.entries.now)) l.same)
+    ∙ sym (Listing.within_after c.args.ask.now c.args.r few some c.requires.cut _ _ _ c.within-walked.ensures)
 
 pub returns-in_err-w : goal.returns-in_err-w
 returns-in_err-w c =
-    let a = rw c.ask.view_is at c.ask.invariant in
-    let long : length c.within-walked.new.marks ≡ length c.args.marks.now = search rules in
-    let e = sym c.list.ensures.same ∙ c.in_err-w.was in
-    let met = rw e at c.within-walked.ensures in
-    let l = rw e at c.list.ensures in
-    let P = places _ _ _ _ (of_asked n c.ask.view_is c.entries.ensures.value) c.min-places.ensures in
-    rw (passed_on c.from_residual.ensures.1)
-    (end_is refl (l.marks_after ∙ ap (λ (k : ℕ). padded k []) (long ∙ c.requires.marks_len)) l.entries_after l.distances_after
-    ∙ sym (Listing.within-refused _ c.args.r a.lent.few c.args.marks.now _ _ c.requires.marks_len _ _ c.min-shorter.ensures P _ met))
+    rw (passed_on c.from_residual.ensures.1) (after (goal.at.returns-in_err-w c).After-list _ (sym (ap (Listing.found_within (length c.args.entries.now)) c.in_err-w.was)))
 
-pub returns-then-shorter-answers : goal.returns-then-shorter-answers
-returns-then-shorter-answers c =
-    let a = rw c.ask.view_is at c.ask.invariant in
-    let long : length c.within-walked.new.marks ≡ length c.args.marks.now = search rules in
-    let e = sym c.list.ensures.same ∙ c.in_ok-w.was in
-    let ended = rw e at c.within-walked.ensures in
-    let l = rw e at c.list.ensures in
-    let P = places _ _ _ _ (of_asked n c.ask.view_is c.entries.ensures.value) c.min-places.ensures in
-    end_is refl (l.marks_after ∙ ap (λ (k : ℕ). padded k []) (long ∙ c.requires.marks_len)) l.entries_after l.distances_after
-    ∙ sym (Listing.within_many _ c.args.r a.lent.few c.args.marks.now _ _ c.requires.marks_len _ _ c.min-shorter.ensures P _ _ _ ended c.if-shorter-answers.true)
+pub returns-then-entries-answers : goal.returns-then-entries-answers
+returns-then-entries-answers c =
+    let l : length c.args.entries.now < c.in_ok-w.w.seen.near = omega arith in
+    after (goal.at.returns-then-entries-answers c).After-list _ (rw (c.in_ok-w.was, lt-ltb _ _ l))
 
 pub returns : goal.returns
 returns c =
-    let a = rw c.ask.view_is at c.ask.invariant in
-    let long : length c.within-walked.new.marks ≡ length c.args.marks.now = search rules in
-    let e = sym c.list.ensures.same ∙ c.in_ok-w.was in
-    let ended = rw e at c.within-walked.ensures in
-    let l = rw e at c.list.ensures in
-    let P = places _ _ _ _ (of_asked n c.ask.view_is c.entries.ensures.value) c.min-places.ensures in
-    end_is refl (l.marks_after ∙ ap (λ (k : ℕ). padded k []) (long ∙ c.requires.marks_len)) l.entries_after l.distances_after
-    ∙ sym (Listing.within-listed _ c.args.r a.lent.few c.args.marks.now _ _ c.requires.marks_len _ _ c.min-shorter.ensures P _ _ _ ended c.if-shorter-answers.false)
+    let l : c.in_ok-w.w.seen.near ≤ length c.args.entries.now = omega arith in
+    after (goal.at.returns c).After-list _ (rw (c.in_ok-w.was, le-ltb _ _ l))

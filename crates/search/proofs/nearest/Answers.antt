@@ -1,5 +1,5 @@
 -- `search::nearest` meets its contract. Assumes nothing.
-use mathlib.Core.Path.{◌≡◌, sym, ◌∙◌}
+use mathlib.Core.Path.{◌≡◌, sym}
 use mathlib.Core.List.{[], ◌∷◌}
 use native.Mathlib.Omega.{arith}
 use lib.Seq.{length-take-le}
@@ -11,61 +11,45 @@ use Rattle.walk.proofs.Asked.{of_asked}
 use Rattle.search.proofs.Refusing
 use Rattle.search.proofs.Answering
 use Rattle.search.proofs.nearest.Goals as goal
+use Rattle.search.proofs.nearest.Goals.{After-min-k}
 
 pub returns-in_err-ask : goal.returns-in_err-ask
 returns-in_err-ask c =
     rw (passed_on c.from_residual.ensures.1) (Answering.nearest_early (question c.args.index.now c.args.query.now) _ _ _ c.args.k _ (Refusing.not_accepted _ _ _ _ c.in_err-ask.ensures))
 
-pub returns-then-min-k : goal.returns-then-min-k
-returns-then-min-k c =
-    let x = c.args.index.now in
-    let a = Refusing.accepted x c.args.query.now (0 ∷ []) c.args.marks.now c.in_ok-ask.ensures in
-    let many = rw a.1 at (of_asked n c.ask.view_is c.entries-n.ensures.value) in
-    let few = c.if-min-k.true in
-    let least = c.min.ensures in
-    let most = c.min-k.ensures in
-    Answering.nearest_few (question x c.args.query.now) c.args.marks.now c.args.entries.now c.args.distances.now c.args.k a.0 (omega arith)
+-- the question in hand is the one that is asked, and of k it is K that is listed
+record Ready (c : After-min-k) : Type 0 where
+  fit : Refusing.Fit c.args.index.now c.args.query.now (0 ∷ []) c.args.marks.now c.in_ok-ask.ask c.mark_words-words.result
+  k : c.min-k.result ≡ K c.args.index.now c.args.k
+
+ready : (c : After-min-k) → Ready c
+ready c =
+    let a = Refusing.accepted _ _ _ _ c.in_ok-ask.ensures c.ask.view_is c.mark_words-words.ensures in
+    let many = rw a.is at (of_asked n c.ask.view_is c.entries-n.ensures.value) in
+    record { fit = a; k = omega (arith, c.min-k.ensures) }
+
+pub returns-then-min-places : goal.returns-then-min-places
+returns-then-min-places c =
+    let r = ready (goal.at.returns-then-min-places c).After-min-k in
+    Answering.nearest_few (question c.args.index.now c.args.query.now) c.args.marks.now c.args.entries.now c.args.distances.now c.args.k r.fit.none
+    (omega (arith, r.k, c.if-min-places.true))
 
 pub slice_bounds-list_nearest-end : goal.slice_bounds-list_nearest-end
-slice_bounds-list_nearest-end c =
-    let x = c.args.index.now in
-    let a = Refusing.accepted x c.args.query.now (0 ∷ []) c.args.marks.now c.in_ok-ask.ensures in
-    let many = rw a.1 at (of_asked n c.ask.view_is c.entries-n.ensures.value) in
-    let words = Refusing.words_are _ _ _ many c.div_ceil-words.ensures in
-    let room = rw (← words) at ((Refusing.fit (question x c.args.query.now) (0 ∷ []) c.args.marks.now a.0).room) in
-    room
+slice_bounds-list_nearest-end c = (ready (goal.at.slice_bounds-list_nearest-end c).After-min-k).fit.lent
 
 pub slice_bounds-list_nearest-end-2 : goal.slice_bounds-list_nearest-end-2
-slice_bounds-list_nearest-end-2 c =
-    let x = c.args.index.now in
-    let a = Refusing.accepted x c.args.query.now (0 ∷ []) c.args.marks.now c.in_ok-ask.ensures in
-    let many = rw a.1 at (of_asked n c.ask.view_is c.entries-n.ensures.value) in
-    let words = Refusing.words_are _ _ _ many c.div_ceil-words.ensures in
-    let room = rw (← words) at ((Refusing.fit (question x c.args.query.now) (0 ∷ []) c.args.marks.now a.0).room) in
-    sym (length-take-le _ _ room)
+slice_bounds-list_nearest-end-2 c = sym (length-take-le _ _ (ready (goal.at.slice_bounds-list_nearest-end-2 c).After-min-k).fit.lent)
 
-pub list_nearest-requires : goal.list_nearest-requires
-list_nearest-requires c =
-    let x = c.args.index.now in
-    let a = Refusing.accepted x c.args.query.now (0 ∷ []) c.args.marks.now c.in_ok-ask.ensures in
-    let many = rw a.1 at (of_asked n c.ask.view_is c.entries-n.ensures.value) in
-    let words = Refusing.words_are _ _ _ many c.div_ceil-words.ensures in
-    let room = rw (← words) at ((Refusing.fit (question x c.args.query.now) (0 ∷ []) c.args.marks.now a.0).room) in
-    let enough = c.if-min-k.false in
-    let least = c.min.ensures in
-    let most = c.min-k.ensures in
-    rw a.1 (record { k_in_bounds = (omega arith, omega arith, omega arith); marks_len = length-take-le _ _ room ∙ words })
+pub list_nearest-requires-clause-cut : goal.list_nearest-requires-clause-cut
+list_nearest-requires-clause-cut c =
+    let r = ready (goal.at.list_nearest-requires-clause-cut c).After-min-k in
+    rw (r.fit.is, r.fit.words)
+    (Answering.needed-cut (question c.args.index.now c.args.query.now) c.args.marks.now c.args.entries.now c.args.distances.now _ (r.fit.room, omega arith))
 
 pub returns : goal.returns
 returns c =
-    let x = c.args.index.now in
-    let a = Refusing.accepted x c.args.query.now (0 ∷ []) c.args.marks.now c.in_ok-ask.ensures in
-    let many = rw a.1 at (of_asked n c.ask.view_is c.entries-n.ensures.value) in
-    let words = Refusing.words_are _ _ _ many c.div_ceil-words.ensures in
-    let room = rw (← words) at ((Refusing.fit (question x c.args.query.now) (0 ∷ []) c.args.marks.now a.0).room) in
-    let enough = c.if-min-k.false in
-    let least = c.min.ensures in
-    let most = c.min-k.ensures in
-    let k : c.min-k.result ≡ K x c.args.k = omega arith in
-    let listed = rw (a.1, words, k) at c.list_nearest.ensures in
-    rw words (Answering.nearest-whole (question x c.args.query.now) c.args.marks.now c.args.entries.now c.args.distances.now c.args.k a.0 (omega arith) (rw words at room) listed)
+    let r = ready (goal.at.returns c).After-min-k in
+    let listed = rw (r.fit.is, r.fit.words, r.k) at c.list_nearest.ensures in
+    rw (r.fit.words, r.k)
+    (Answering.nearest-whole (question c.args.index.now c.args.query.now) c.args.marks.now c.args.entries.now c.args.distances.now c.args.k r.fit.none
+    (r.fit.room, omega (arith, r.k)) listed)

@@ -1,9 +1,7 @@
--- `tables::fill` meets its contract. The loop's invariant: the first z tables' parts are filled, and bit is the next one's first. Assumes nothing.
+-- `tables::fill` meets its contract. The loop's invariant: the first z tables' parts are filled. Assumes nothing.
 use Rattle.scope.specs.Tables.{index}
-use Rattle.scope.specs.Shape.{first_bit}
-use mathlib.Core.Path.{◌≡◌}
 use Rattle.tables.proofs.Parts.{Filled}
 use Rattle.tables.proofs.fill.Given as goal
 
 abbrev pub invariant-loop-z : goal.invariant-loop-z
-invariant-loop-z l = Filled (index l.shape l.stars l.codes l.initial.starts l.initial.ids) l.starts l.ids l.z × (l.bit ≡ first_bit l.shape l.z)
+invariant-loop-z l = Filled (index l.shape l.stars l.codes l.initial.starts l.initial.ids) l.starts l.ids l.z

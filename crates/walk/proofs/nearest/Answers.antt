@@ -18,4 +18,4 @@ returns c =
     let ask = c.args.ask.now in
     let top = of_index (λ x. q x.shape) c.index.view_is c.ask.view_is c.q-top.ensures.value in
     let ne = c.if-k-eq0.false in
-    Stepping.walked_as _ _ _ _ (Stepping.nearest_steps_lem ask c.args.k (q ask.index.shape) (omega arith) c.requires.k_in_bounds) _ _ _ (rw top at c.until.ensures)
+    Stepping.walked_as _ _ _ _ (Stepping.nearest_steps_lem ask c.args.k (q ask.index.shape) (omega arith) c.requires.k_in_bounds) _ _ _ (rw top at c.take_steps.ensures)

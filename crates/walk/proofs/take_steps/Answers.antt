@@ -1,6 +1,7 @@
-use mathlib.Core.Path.{◌≡◌, refl, ◌∙◌}
+use mathlib.Core.Path.{◌≡◌, refl, subst, ◌∙◌}
+use mathlib.Core.Bool.{false}
 use mathlib.Core.List.{List}
-use Prim.Native.Nat.{ℕ, ◌%◌, ◌≤◌, ◌<◌}
+use Prim.Native.Nat.{ℕ, ◌+◌, ◌≤◌}
 use native.Mathlib.Nat.{mod-lt}
 use native.Mathlib.Omega.{arith}
 use lib.Dec.{ltb}
@@ -14,85 +15,82 @@ use Rattle.scope.proofs.Walking.{opened_few}
 use Rattle.walk.specs.declared.Aim.{Aim}
 use Rattle.walk.specs.declared.Walk.{Walk}
 use Rattle.walk.specs.Asked.{Asked}
-use Rattle.walk.specs.Steps.{Going, Sensible, enough_after}
+use Rattle.walk.specs.Steps.{Met, Stepped, Sensible, enough_after}
 use Rattle.walk.proofs.Asked.{of_index}
 use Rattle.walk.proofs.Stepping
+use Rattle.walk.proofs.Opening.{Clear}
 use Rattle.walk.proofs.take_steps.Goals as goal
-
--- what the step's goals ask
-record Ready (ask : Question) (N : ℕ) (w : Walk) : Type 0 where
-  some : 0 < m ask.index.shape
-  table : N % m ask.index.shape < m ask.index.shape
-  buckets : w.opened.0 ≤ 16777216
-
-ready : {ask : Question} {goal : Aim} (N : ℕ) {w : Walk} {marks tally : List ℕ} → Asked ask → N ≤ 256 → Going ask goal N w marks tally → Ready ask N w
-ready {ask} N a l h =
-    let f = facts _ a.lent.known in
-    record {
-      some = f.some_tables;
-      table = mod-lt N f.some_tables;
-      buckets = omega (arith, h.opened, opened_few ask f N);
-    }
+use Rattle.walk.proofs.take_steps.Goals.{After-open_all}
 
 -- what the limit says, it says of the steps so far
-module _ {ask : Question} {goal : Aim} {N top : ℕ} {w : Walk} {marks tally : List ℕ} (a : Asked ask) (b : (top ≤ 256) × Sensible goal top)
-    (far : Stepping.Far ask goal (enough_after ask goal) top N w marks tally) (l : N ≤ top) where
-  told : enough_after ask goal N ≡ ltb w.seen.limit N
-  told = Stepping.reached_is ask goal N w marks tally far.going top a.lent.few b.0 b.1 l
+told : {ask : Question} {goal : Aim} {N top : ℕ} {w : Walk} {marks tally : List ℕ} → Asked ask → (top ≤ 256) × Sensible goal top
+    → Stepping.Far ask goal (enough_after ask goal) top N w marks tally → N ≤ top → enough_after ask goal N ≡ ltb w.seen.limit N
+told {ask} {goal} {N} {top} {w} {marks} {tally} a b far l = Stepping.reached_is ask goal N w marks tally far.going top a.lent.few b.0 b.1 l
+
+-- step N opens the buckets of its table, and nothing before it was enough
+module _ (c : After-open_all) where
+  abbrev N : ℕ
+  N = c.loop-at.at
+
+  not_yet : enough_after c.args.ask.now c.args.aim N ≡ false
+  not_yet =
+      let a = rw (c.own.view_is, c.again-own.ensures) at c.own.invariant in
+      told a c.requires.top_bound c.loop-at.invariant.0 c.loop-at-test.true ∙ le-ltb _ _ c.if-w-at.false
+
+  stepped : (end : Met) → c.open_all.result ≡ end → Stepped c.args.ask.now c.args.aim N c.open_all.new.self end c.open_all.new.marks c.open_all.new.tally
+  unfolding opens
+  stepped end is =
+      let (ask, z) = c.of-table.ensures in
+      let tables = of_index (λ x. m x.shape) c.index.view_is (c.own.view_is ∙ c.again-own.ensures) c.m-m.ensures in
+      let step = Stepping.stepped _ _ N _ _ _ _ _ _ _ c.loop-at.invariant.0.going (rw (ask, z, c.again-own.ensures, tables) at c.open_all.ensures) in
+      subst (λ (e : Met). Stepped c.args.ask.now c.args.aim N c.open_all.new.self e c.open_all.new.marks c.open_all.new.tally) is step
+
+  further : c.open_all.result ≡ Clear
+      → Stepping.Far c.args.ask.now c.args.aim (enough_after c.args.ask.now c.args.aim) c.args.top (N + 1) c.open_all.new.self c.open_all.new.marks c.open_all.new.tally
+  further ok = Stepping.far-more _ _ _ _ _ _ _ _ c.loop-at.invariant.0 c.loop-at-test.true not_yet _ _ _ (stepped Clear ok)
 
 pub loop-at-init : goal.loop-at-init
 loop-at-init c = (Stepping.far_none _ _ _ _ _ _ _ c.requires.top_bound.1 c.start-w.ensures c.requires.fresh, refl, refl)
 
 pub returns-then-w-at : goal.returns-then-w-at
 returns-then-w-at c =
-    let a = rw c.ask.view_is at c.ask.invariant in
+    let a = rw (c.own.view_is, c.again-own.ensures) at c.own.invariant in
     let far = c.loop-at.invariant.0 in
     let l = c.loop-at-test.true in
     Stepping.walked-enough _ _ _ _ _ _ _ _ far l (told a c.requires.top_bound far l ∙ lt-ltb _ _ c.if-w-at.true)
 
-pub nonzero_rem-a : goal.nonzero_rem-a
-nonzero_rem-a c = rw c.m-m.ensures (facts _ c.index.invariant.known).some_tables
+pub nonzero_rem-step : goal.nonzero_rem-step
+nonzero_rem-step c = rw c.m-m.ensures (facts _ c.index.invariant.known).some_tables
+
+pub of-table-requires : goal.of-table-requires
+of-table-requires c =
+    let a = rw (c.own.view_is, c.again-own.ensures) at c.own.invariant in
+    let tables = of_index (λ x. m x.shape) c.index.view_is (c.own.view_is ∙ c.again-own.ensures) c.m-m.ensures in
+    rw (tables, c.again-own.ensures) (mod-lt c.loop-at.at (facts _ a.lent.known).some_tables)
 
 pub nonzero_div-r : goal.nonzero_div-r
 nonzero_div-r c = rw c.m-m.ensures (facts _ c.index.invariant.known).some_tables
 
 pub open_all-requires : goal.open_all-requires
 open_all-requires c =
-    let a = rw c.ask.view_is at c.ask.invariant in
+    let (ask, z) = c.of-table.ensures in
+    let a = rw (c.own.view_is, c.again-own.ensures) at c.own.invariant in
     let going = c.loop-at.invariant.0.going in
     let l = c.loop-at-test.true in
     let t = c.requires.top_bound.0 in
-    let r = ready c.loop-at.at a (omega arith) going in
-    let tables = of_index (λ x. m x.shape) c.index.view_is c.ask.view_is c.m-m.ensures in
-    record { z_bound = (rw tables r.table, r.buckets); counted = going.counted }
+    rw (ask, c.again-own.ensures) (record { room = omega (arith, going.opened, opened_few c.args.ask.now (facts _ a.lent.known) c.loop-at.at); counted = going.counted })
 
 pub returns-in_err-open_all : goal.returns-in_err-open_all
-unfolding opens
 returns-in_err-open_all c =
-    let a = rw c.ask.view_is at c.ask.invariant in
-    let far = c.loop-at.invariant.0 in
-    let l = c.loop-at-test.true in
-    let tables = of_index (λ x. m x.shape) c.index.view_is c.ask.view_is c.m-m.ensures in
-    let step = Stepping.stepped _ _ c.loop-at.at _ _ _ _ _ _ _ far.going (rw tables at c.in_err-open_all.ensures) in
-    rw (passed_on c.from_residual.ensures.1) (Stepping.walked-bad _ _ _ _ _ _ _ _ far l (told a c.requires.top_bound far l ∙ le-ltb _ _ c.if-w-at.false) _ _ _ _ step)
+    let s : After-open_all = search in
+    rw (passed_on c.from_residual.ensures.1) (Stepping.walked-bad _ _ _ _ _ _ _ _ c.loop-at.invariant.0 c.loop-at-test.true (not_yet s) _ _ _ _ (stepped s _ c.in_err-open_all.was))
 
 pub loop-at-preserved : goal.loop-at-preserved
-unfolding opens
 loop-at-preserved c =
-    let a = rw c.ask.view_is at c.ask.invariant in
-    let far = c.loop-at.invariant.0 in
-    let l = c.loop-at-test.true in
-    let tables = of_index (λ x. m x.shape) c.index.view_is c.ask.view_is c.m-m.ensures in
-    let step = Stepping.stepped _ _ c.loop-at.at _ _ _ _ _ _ _ far.going (rw tables at c.in_ok-open_all.ensures) in
-    (Stepping.far-more _ _ _ _ _ _ _ _ far l (told a c.requires.top_bound far l ∙ le-ltb _ _ c.if-w-at.false) _ _ _ step, search rules, search rules)
+    let s : After-open_all = search in
+    (further s c.in_ok-open_all.was, search rules, search rules)
 
 pub returns-in_ok-open_all : goal.returns-in_ok-open_all
-unfolding opens
 returns-in_ok-open_all c =
-    let a = rw c.ask.view_is at c.ask.invariant in
-    let far = c.loop-at.invariant.0 in
-    let l = c.loop-at-test.true in
-    let tables = of_index (λ x. m x.shape) c.index.view_is c.ask.view_is c.m-m.ensures in
-    let step = Stepping.stepped _ _ c.loop-at.at _ _ _ _ _ _ _ far.going (rw tables at c.in_ok-open_all.ensures) in
-    let more = Stepping.far-more _ _ _ _ _ _ _ _ far l (told a c.requires.top_bound far l ∙ le-ltb _ _ c.if-w-at.false) _ _ _ step in
-    Stepping.walked_all _ _ _ _ _ _ _ _ more (omega arith)
+    let s : After-open_all = search in
+    Stepping.walked_all _ _ _ _ _ _ _ _ (further s c.in_ok-open_all.was) (omega arith)

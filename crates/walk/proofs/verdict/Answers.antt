@@ -21,4 +21,4 @@ returns c =
     let top = of_index (λ x. q x.shape) c.index.view_is c.ask.view_is c.q.ensures.value in
     let e = of_asked n c.ask.view_is c.entries.ensures.value in
     let ne = c.if-entries-eq0.false in
-    Stepping.walked_as _ _ _ _ (Stepping.verdict_steps_lem c.args.ask.now (omega arith)) _ _ _ (rw top at c.until.ensures)
+    Stepping.walked_as _ _ _ _ (Stepping.verdict_steps_lem c.args.ask.now (omega arith)) _ _ _ (rw top at c.take_steps.ensures)

@@ -24,8 +24,8 @@ returns-then-entries-eq0 c =
     let e = sym (of_asked n c.ask.view_is c.entries.ensures.value) ∙ c.if-entries-eq0.true in
     rw (eq-eqb _ _ e) (Stepping.walked_none _ _ _ _ _ c.start.ensures c.requires.fresh none)
 
-pub until-requires : goal.until-requires
-until-requires c =
+pub take_steps-requires : goal.take_steps-requires
+take_steps-requires c =
     let a = rw c.ask.view_is at c.ask.invariant in
     let t = top a c.requires.r_bound in
     record { top_bound = (t, (omega arith, omega arith, t)); fresh = c.requires.fresh }
@@ -36,4 +36,4 @@ returns c =
     let a = rw c.ask.view_is at c.ask.invariant in
     let few = a.lent.few in
     let ne = λ (e : n c.args.ask.now.index ≡ 0). c.if-entries-eq0.false (of_asked n c.ask.view_is c.entries.ensures.value ∙ e) in
-    rw (ne_eqb (n c.args.ask.now.index) 0 ne) (Stepping.walked_as _ _ _ _ (Stepping.all_steps c.args.ask.now 65537 c.args.r c.args.r (omega arith)) _ _ _ c.until.ensures)
+    rw (ne_eqb (n c.args.ask.now.index) 0 ne) (Stepping.walked_as _ _ _ _ (Stepping.all_steps c.args.ask.now 65537 c.args.r c.args.r (omega arith)) _ _ _ c.take_steps.ensures)

@@ -4,6 +4,11 @@ use Rattle.scope.specs.declared.Shape.{Shape}
 use Rattle.scope.proofs.Shapes.{facts, in_code}
 use Rattle.tables.proofs.Part.of.Goals as goal
 
+pub invariant_of-codes : goal.invariant_of-codes
+invariant_of-codes c =
+    let w : c.shape.inside.shape.w ≡ c.args.shape.w = ap (λ (s : Shape). s.w) c.shape.view_is in
+    record { few_words = rw w (facts _ (rw c.shape.view_is at c.shape.invariant)).few_words }
+
 pub invariant_of-table : goal.invariant_of-table
 invariant_of-table c =
     let sh = c.args.shape in
@@ -13,8 +18,7 @@ invariant_of-table c =
     record {
       some_bits = rw c.bits.ensures.value (g.some_bits z);
       few_bits = rw c.bits.ensures.value (g.few_bits z);
-      few_words = rw w g.few_words;
-      in_code = rw (c.requires.shape.1, c.bits.ensures.value, w) (in_code sh g z c.requires.shape.0);
+      in_code = rw (c.first_bit.ensures, c.bits.ensures.value, w) (in_code sh g z c.requires.shape);
       few = c.requires.codes.0;
       whole = rw w c.requires.codes.1;
     }

@@ -71,4 +71,5 @@ returns-in-TwoStars c =
     let d = exact _ _ _ c.in-Some.ensures in
     let x = ap (λ (q : Question). q.index) c.ask.view_is in
     let joins = rw x at c.join-best.ensures in
-    Testing.tests-stars _ _ _ _ _ _ _ c.requires.counted _ (inside _ a _ c.requires.i_bound) new _ c.mark.ensures _ d.0 c.in-TwoStars.is _ joins
+    rw c.distance-in-TwoStars.ensures
+    (Testing.tests-stars _ _ _ _ _ _ _ c.requires.counted _ (inside _ a _ c.requires.i_bound) new _ c.mark.ensures _ d.0 c.in-TwoStars.is _ joins)

@@ -5,4 +5,4 @@ use Rattle.walk.specs.Steps.{Sees}
 use Rattle.walk.proofs.Seen.test_all.Given as goal
 
 abbrev pub invariant-loop-id : goal.invariant-loop-id
-invariant-loop-id l = Sees l.ask l.aim (λ i. has i (take l.id-index l.id-items)) l.seen l.initial.marks l.marks l.tally
+invariant-loop-id l = Sees l.ask l.aim (λ i. has i (take l.id-index l.ids)) l.seen l.initial.marks l.marks l.tally

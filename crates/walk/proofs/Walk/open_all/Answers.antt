@@ -10,15 +10,12 @@ use Rattle.theory.specs.Lists.{first_from}
 use Rattle.theory.proofs.Lists.{first_ge, first_passes}
 use Rattle.masks.specs.Masks.{has_ones}
 use Rattle.scope.proofs.Codes.{substring-lt}
-use Rattle.scope.specs.Shape.{len, size}
+use Rattle.scope.specs.Shape.{len}
 use Rattle.scope.specs.Walk.{Question}
 use Rattle.scope.proofs.Rows.{passed_on}
-use Rattle.scope.proofs.Shapes.{facts, few_buckets}
 use Rattle.walk.specs.declared.Aim.{Aim}
 use Rattle.walk.specs.declared.Walk.{Walk}
-use Rattle.walk.specs.Asked.{Asked}
 use Rattle.walk.specs.Steps.{Met, around, Opening}
-use Rattle.walk.proofs.Asked.{of_index}
 use Rattle.walk.proofs.Opening as opening
 use borrow.Author.Rules.{rules}
 use Rattle.walk.proofs.Walk.open_all.Invariants.{Through}
@@ -45,57 +42,57 @@ module _ {ask : Question} {goal : Aim} {z r sub buckets under : ℕ} {w o : Walk
       rw (opening.around-next z under r sub buckets h.all 65536 e k (h.here l) above inside below)
       (opening.opening_more ask goal w marks _ _ o u end marks' tally' marks'' tally'' (rw here at h.opened) g)
 
-few_of : (ask : Question) → Asked ask → (z : ℕ) → size ask.index.shape z ≤ 65536
-few_of ask a z = few_buckets _ (facts _ a.lent.known) z
-
 pub first-e-requires : goal.first-e-requires
 first-e-requires c =
-    let is = of_index (λ x. size x.shape c.args.z) c.index.view_is c.ask.view_is c.buckets-buckets.ensures in
-    let a = rw c.ask.view_is at c.ask.invariant in
-    omega (arith, is, few_of _ a c.args.z, pow_pos (len c.args.ask.now.index.shape c.args.z))
+    let b = c.buckets-buckets.ensures in
+    omega (arith, b.value, b.few, pow_pos (len c.args.table.now.ask.now.index.shape c.args.table.now.z))
 
 pub loop-e-init : goal.loop-e-init
 loop-e-init c =
-    let is = of_index (λ x. size x.shape c.args.z) c.index.view_is c.ask.view_is c.buckets-buckets.ensures in
+    let t = c.args.table.now in
+    let is = c.buckets-buckets.ensures.value in
     let buckets = c.buckets-buckets.result in
     let p = has_ones (buckets - 1) c.args.r in
-    let few : buckets ≤ 65536 = let a = rw c.ask.view_is at c.ask.invariant in omega (arith, few_of _ a c.args.z) in
-    let all : (v : ℕ) → v < buckets → bit_and v (buckets - 1) ≡ v = rw is (λ v l. and_mask v (len c.args.ask.now.index.shape c.args.z) ∙ mod-eq_of_lt l) in
+    let few = c.buckets-buckets.ensures.few in
+    let all : (v : ℕ) → v < buckets → bit_and v (buckets - 1) ≡ v = rw is (λ v l. and_mask v (len t.ask.now.index.shape t.z) ∙ mod-eq_of_lt l) in
     let f = c.first-e.ensures in
     let none : min c.first-e.result buckets ≤ first_from p 0 65536 = omega arith in
     record {
       few = few;
       all = all;
       here = λ l. rw f (first_passes p 65536 0 (omega arith));
-      opened = rw (opening.around-first c.args.z (buckets - 1) c.args.r _ buckets all 65536 (min c.first-e.result buckets) (omega arith) none) (opening.opening-none _ _ _ _ _ c.requires.counted);
+      opened = rw (opening.around-first t.z (buckets - 1) c.args.r _ buckets all 65536 (min c.first-e.result buckets) (omega arith) none) (opening.opening-none _ _ _ _ _ c.requires.counted);
       same-marks = refl;
       same-tally = refl;
     }
 
+pub bucket-requires : goal.bucket-requires
+bucket-requires c =
+    let t = c.args.table.now in
+    let is = c.buckets-buckets.ensures.value in
+    let l = c.loop-e-test.true in
+    xor_lt (len t.ask.now.index.shape t.z) c.substring-sub.result c.loop-e.e (rw c.substring-sub.ensures (substring-lt _ _ _)) (omega arith)
+
 pub open-requires : goal.open-requires
 open-requires c =
-    let is = of_index (λ x. size x.shape c.args.z) c.index.view_is c.ask.view_is c.buckets-buckets.ensures in
     let i = c.loop-e.invariant in
     let l = c.loop-e-test.true in
-    let b = c.requires.z_bound.1 in
+    let b = c.requires.room in
     let few = i.few in
-    record {
-      z_bound = (
-        c.requires.z_bound.0,
-        xor_lt (len c.args.ask.now.index.shape c.args.z) c.substring-sub.result c.loop-e.e (rw c.substring-sub.ensures (substring-lt _ _ _)) (omega arith),
-        omega (arith, many i),
-      );
-      counted = (i.opened.clear refl).counted;
-    }
+    let (t, v) = c.bucket.ensures in
+    rw t (record { room = omega (arith, many i); counted = (i.opened.clear refl).counted })
 
 pub returns-in_err-open : goal.returns-in_err-open
 returns-in_err-open c =
-    let is = of_index (λ x. size x.shape c.args.z) c.index.view_is c.ask.view_is c.buckets-buckets.ensures in
+    let t = c.args.table.now in
+    let is = c.buckets-buckets.ensures.value in
     let i = c.loop-e.invariant in
     let l = c.loop-e-test.true in
+    let (same, v) = c.bucket.ensures in
+    let opened = rw (same, v) at c.in_err-open.ensures in
     rw (passed_on c.from_residual.ensures.1, ← c.substring-sub.ensures)
-    (opening.around-bad c.args.z c.args.r c.substring-sub.result _ _ _ _ _ _ _ _ (suc c.loop-e.e) _ (omega arith)
-    (more i (omega arith) _ _ _ _ c.in_err-open.ensures (suc c.loop-e.e) (omega arith) (omega arith) (past i)))
+    (opening.around-bad t.z c.args.r c.substring-sub.result _ _ _ _ _ _ _ _ (suc c.loop-e.e) _ (omega arith)
+    (more i (omega arith) _ _ _ _ opened (suc c.loop-e.e) (omega arith) (omega arith) (past i)))
 
 pub loop-e-smaller : goal.loop-e-smaller
 loop-e-smaller c =
@@ -114,7 +111,8 @@ loop-e-preserved c =
           let l = c.loop-e-test.true in
           let n = c.next-e.ensures in
           let behind = past i in
-          more i (omega arith) _ _ _ _ c.in_ok-open.ensures _ (omega arith) (omega arith) (omega arith);
+          let (t, v) = c.bucket.ensures in
+          more i (omega arith) _ _ _ _ (rw (t, v) at c.in_ok-open.ensures) _ (omega arith) (omega arith) (omega arith);
       same-marks = search rules;
       same-tally = search rules;
     }

@@ -23,7 +23,7 @@ pub record Through (ask : Question) (goal : Aim) (z r sub buckets under : ℕ) (
   pub same-tally : length tally' ≡ length tally
 
 abbrev pub invariant-loop-e : goal.invariant-loop-e
-invariant-loop-e l = Through l.ask l.aim l.z l.r l.sub l.buckets l.under l.initial.self l.self l.initial.marks l.marks l.initial.tally l.tally l.e
+invariant-loop-e l = Through l.table.ask.now l.aim l.table.z l.r l.sub l.buckets l.under l.initial.self l.self l.initial.marks l.marks l.initial.tally l.tally l.e
 
 abbrev pub decreases-loop-e : goal.decreases-loop-e
 decreases-loop-e l = l.buckets - l.e
