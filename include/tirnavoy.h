@@ -102,7 +102,7 @@ uint32_t tirnavoy_verdict(uint32_t w, uint32_t m, const uint32_t *stars, size_t 
 
 /* The k nearest entries for each of up to 256 queries, codes of w words one after the other. Query j's part is what tirnavoy_nearest finds for it alone: in records[j * k] to
  * records[j * k + k - 1] its answers and then records of zeros, in the outcomes its refusal (0, or 7), its number of answers and its two counts. A query refused 7 has zeros but the
- * 7, in its own part only. Later places of both lists are unchanged. Refusals 1, 2, 3, 4, 5 (marks), 11. The call takes some 520 KiB of stack. */
+ * 7, in its own part only. Later places of both lists are unchanged. Refusals 1, 2, 3, 4, 5 (marks), 11. The call takes some 11 KiB of stack, and some 520 KiB where k exceeds 1,024. */
 uint32_t tirnavoy_batch(uint32_t w, uint32_t m, const uint32_t *stars, size_t stars_len, const uint64_t *codes, size_t codes_len, const uint32_t *starts, size_t starts_len,
                         const uint32_t *ids, size_t ids_len, const uint64_t *queries, size_t queries_len, uint32_t k, uint64_t *marks, size_t marks_len, uint32_t *outcomes,
                         size_t outcomes_len, struct tirnavoy_answer *records, size_t records_len);

@@ -187,7 +187,8 @@ pub extern "C" fn tirnavoy_batch(
     }
 }
 
-// The same, with scratch of N places.
+// The same, with scratch of N places. Not inlined: a function has one frame, and a small k is not to pay for the largest scratch.
+#[inline(never)]
 fn batch_in<const N: usize>(
     index: &Index<'_>,
     queries: &[u64],
