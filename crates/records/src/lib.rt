@@ -239,7 +239,7 @@ fn index(session: Session, catalogue: &Catalogue) -> Index<'_>
     }
 }
 
-// Two numbers of a session, which need not be a listed shape.
+// Two numbers of a session, which need not be a listed shape. No `From`: both types are of another crate.
 fn shape_of(session: Session) -> Shape
     ensures { result ≡ shape_of session }
 {

@@ -80,6 +80,7 @@ fn in_field(d: f64) -> bool
     -4.0 <= d && d < 4.0
 }
 
+// No `From` here and below: `Unit`, `Angle` and numbers are all of other crates.
 #[tactic(auto, unfolding(scope::specs::Sky::angle_of))]
 fn in_unit(unit: Unit, x: f64) -> Angle
     ensures { result ≡ angle_of unit x }

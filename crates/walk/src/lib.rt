@@ -294,6 +294,7 @@ fn take_steps(
     requires fresh { Fresh (mark_words (n ask.now.index)) marks.old tally.old }
     ensures { Walked ask.now aim (steps_to (enough_after ask.now aim) top) result marks.new tally.new }
 {
+    // nothing that is written can lie in it, so that it is read once
     let own = ask.again();
     let index = &own.index;
     let m = index.shape.m();

@@ -15,8 +15,7 @@ use codes::Codes;
 use scope::Refusal;
 use std::ops::Range;
 
-// Table z of a question's index: the bits of a code that it goes by, and its own part of the starts and ids. All is worked out once a step, and the question is one of its own, so
-// that nothing that is written can lie in it.
+// Table z of a question's index: the bits of a code that it goes by, and its own part of the starts and ids, all worked out once a step.
 #[derive(Drop)]
 pub(crate) struct Table<'a> {
     pub ask: &'a Question<'a>,
