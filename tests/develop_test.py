@@ -1,10 +1,13 @@
 #!/usr/bin/env python3
-"""tools/crates and tools/landing on a small repository: the graph, a page out of date, a note in which everything is known, and wrong words."""
+"""tools/crates and tools/landing on a small repository: the graph, a page out of date, a note in which everything is known, and wrong words. tests/statements on
+another: what it says of a generic function's theorem, true and with false premises. And docs/DEVELOP.md's sample of a wrong version is an edit of this repository."""
 import pathlib
+import re
 import shutil
 import subprocess
 import sys
 import tempfile
+import textwrap
 
 TOP = pathlib.Path(__file__).resolve().parent.parent
 PAGE = "before\n<!-- crates.txt, drawn by tools/crates -->\n<!-- end of crates.txt -->\nafter\n"
@@ -103,6 +106,49 @@ NOTE = [
     "<!-- for the table in README.md: | [..](..) | +1 | 2/1 | 2/0 | 61/.. s | -->",
 ]
 WHOLE = "rt: low proved\nrt: high proved\nrt: ok; handles allowed: none; every proof and must-fail edit was done in this run\n2 passed, 0 failed\nreal\t1m1.2s\n"
+# a function with a type and its laws, and one with none
+STATED = """use denote.RattleType.{RattleType}
+use denote.Param.Laws.{Laws, IsCopy}
+use mir.Syntax.{Dict}
+use Rattle.std.specs.declared.clone.Clone as Clone
+use Rattle.low.specs.declared.Zero as Zero
+use Rattle.theory.specs.Statements.{Determined}
+use Rattle.low.specs.contracts.wiped as wiped
+use Rattle.low.proofs.wiped.Reads as wiped_reads
+use Rattle.low.specs.contracts.one as one
+use Rattle.low.proofs.one.Reads as one_reads
+
+pub wiped-Determined : (T : RattleType) (l : Laws T) (k : IsCopy T) (Z : Zero.Ghosts T.Denot) (z : Dict) (C : Clone.Ghosts T.Denot) (c : Dict)
+    → Determined (wiped.ended T Z z C c) (wiped_reads.Post T l k Z z C c)
+wiped-Determined T l k Z z C c = search
+
+pub one-Determined : Determined one.ended one_reads.Post
+one-Determined = search
+"""
+FILES = {
+    "docs/PROVED.md": "\n## Public functions\n\n| `low::wiped` | `wiped-Determined`, `low/proofs/Determined.antt` |\n| `low::one` | `one-Determined`, `low/proofs/Determined.antt` |\n",
+    "crates/low/src/lib.rt": "pub trait Zero: Copy {\n}\n\npub fn wiped<T: Zero>(list: &mut [T])\n{\n}\n\npub fn one<'a>(list: &'a [u32]) -> u32\n{\n}\n",
+    "crates/low/proofs/Lib.antt": "pub mod Determined\n",
+    "crates/low/proofs/Determined.antt": STATED,
+}
+# each is true no more, or of something else
+FALSE = [
+    ("wiped-Determined : ", "wiped-Determined : (no : ⊥) "),
+    ("(c : Dict)\n", "(c : Dict) (e : 0 ≡ 1)\n"),
+    ("(c : Dict)\n", "(c : Dict) (O : Ord.Ghosts T.Denot)\n"),
+    ("(T : RattleType) ", "(T : RattleType) (U : RattleType) "),
+    ("(l : Laws T) ", "(l : Laws T) (more : Laws T) "),
+    ("(k : IsCopy T) ", "(k : IsCopy T) {no : ⊥} "),
+    ("(z : Dict)", "(c : Dict)"),
+    ("ended T Z z C c", "ended T Z z C z"),
+    ("Post T l k Z z C c", "Post T l k Z c C z"),
+    ("    → Determined", "    → ⊥ → Determined"),
+    ("Z z C c)\nwiped", "Z z C c) → ⊥\nwiped"),
+    ("low.specs.declared.Zero", "low.specs.declared.Other"),
+    ("denote.Param.Laws", "Rattle.low.proofs.Laws"),
+    ("one-Determined : ", "one-Determined : (no : ⊥) → "),
+    ("one_reads.Post\none", "one_reads.Post\n\n    → ⊥\none"),
+]
 cases, failed = 0, []
 
 
@@ -164,7 +210,42 @@ def landing(top):
     refused(top, "No such file", "landing", "HEAD", "--before", logs[0], "--after", str(top / "none.log"))
 
 
+def statements(top):
+    """a theorem is over the types and laws of its function's generics, and nothing else"""
+
+    def passes(right, name):
+        answer = subprocess.run([sys.executable, top / "tests/statements"], capture_output=True, text=True, timeout=60)
+        expect((answer.returncode == 0) == right and answer.stdout.endswith(" failed\n"), f"statements: {name}: {answer.stdout}{answer.stderr}")
+
+    write(top, FILES)
+    passes(True, "a true page")
+    for old, new in FALSE:
+        expect(old in STATED, f"statements: {old!r} stands nowhere")
+        write(top, {"crates/low/proofs/Determined.antt": STATED.replace(old, new, 1)})
+        passes(False, f"{old!r}, then {new!r}")
+    write(top, FILES)
+    for generics in ("<T: Ord>", "<T: Zero, U: Zero>", "<T>", "<const N: usize>", "<F: Fn(u8) -> u8>", "<\n    T: Zero,\n>", ""):
+        write(top, {"crates/low/src/lib.rt": FILES["crates/low/src/lib.rt"].replace("<T: Zero>", generics)})
+        passes(False, f"generics {generics!r}")
+
+
+def sample():
+    """the page's sample of a wrong version is the edit that it names, and is of what stands there today"""
+    page = (TOP / "docs/DEVELOP.md").read_text(encoding="utf-8")
+    shown = re.search(r"`(crates/\w+)/(must-fail/\w+\.edit)`:\n\n((?: {4}.*\n)+)", page)
+    crate, edit, text = (TOP / shown[1], shown[2], textwrap.dedent(shown[3])) if shown else (TOP, "", "")
+    expect((crate / edit).is_file() and (crate / edit).read_text(encoding="utf-8") == text, f"DEVELOP.md: its sample is not {edit}")
+    file, old = (re.search(rf"^{word}: (.*)$", text, re.M) for word in ("file", "old"))
+    expect(file and old and (crate / file[1]).read_text(encoding="utf-8").count(old[1]) == 1, f"DEVELOP.md: the sample {edit} fits no line")
+
+
 def main():
+    sample()
+    with tempfile.TemporaryDirectory() as folder:
+        top = pathlib.Path(folder)
+        (top / "tests").mkdir()
+        shutil.copy(TOP / "tests/statements", top / "tests")
+        statements(top)
     with tempfile.TemporaryDirectory() as folder:
         top = pathlib.Path(folder)
         write(top, BEFORE)
