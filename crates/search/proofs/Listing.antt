@@ -3,20 +3,19 @@ use Rattle.std.specs.Prelude.{Result, Ok, Err}
 use Rattle.scope.specs.declared.Report.{Report}
 use mathlib.Core.Path.{◌≡◌, refl, sym, ap, ap₂, ◌∙◌}
 use mathlib.Core.Logic.{⊎_elim}
-use mathlib.Core.Bool.{Bool, true, false, ◌&&◌, cond, and-false}
+use mathlib.Core.Bool.{Bool, true, false, ◌&&◌, cond}
 use mathlib.Core.List.{List, [], ◌∷◌, map}
-use Prim.Native.Nat.{ℕ, min, ◌+◌, ◌*◌, ◌/◌, ◌≤◌, ◌<◌}
+use Prim.Native.Nat.{ℕ, min, ◌+◌, ◌/◌, ◌≤◌, ◌<◌}
 use native.Mathlib.Nat.{min-eq_left, min-eq_right}
 use native.Mathlib.Omega.{arith}
 use lib.Dec.{eqb, ltb}
 use lib.ListN.{length, take, length-take, get_or-eq_default, replicate}
 use lib.Seq.{get_or-take, length-take-le}
 use Rattle.std.proofs.lemmas.List.{length-replicate, get_or-replicate}
-use Rattle.theory.specs.Lists.{tab, upto, ranked, padded}
-use Rattle.theory.proofs.Tests.{either, lt-or-le}
-use Rattle.theory.proofs.Lists.{cat_cong, is_tab, padded-take, over-padded, map-take}
-use Rattle.theory.proofs.Parts.{in_parts}
-use Rattle.theory.proofs.Counting.{count-le, count_cong, upto_gap}
+use Rattle.theory.specs.Lists.{tab, padded}
+use Rattle.theory.proofs.Tests.{lt-or-le}
+use Rattle.theory.proofs.Lists.{is_tab, padded-take, over-padded, map-take}
+use Rattle.theory.proofs.Counting.{count-le, count_cong}
 use Rattle.theory.proofs.Order.{ranked_cong, first-near}
 use Rattle.theory.proofs.Placing.{length-ranked}
 use Rattle.scope.specs.declared.Refusal.{Refusal}
@@ -62,37 +61,34 @@ module _ (ask : Question) (w : Walk) (marks tally : List ℕ) (e : Listable ask 
   in_tally : w.seen.limit + 1 ≤ length tally
   in_tally = let whole = e.whole in let inside = e.inside in omega arith
 
-  -- no entry is marked past the last
-  theirs : (p : ℕ → Bool) → upto (λ i. p i && is_marked marks i) (64 * length marks) ≡ upto (λ i. p i && is_marked marks i) (n ask.index)
-  theirs p =
-      upto_gap _ (n ask.index) (64 * length marks) (omega (arith, e.long))
-      (λ i a _. ⊎_elim (λ (y : is_marked marks i ≡ true). absurd (omega (arith, e.theirs i y)))
-      (λ (z : is_marked marks i ≡ false). rw z (and-false (p i))) (either (is_marked marks i)))
-
-  ranked_theirs : (q : ℕ) → ranked (distance_of ask) (is_marked marks) (64 * length marks) q ≡ ranked (distance_of ask) (is_marked marks) (n ask.index) q
-  unfolding ranked
-  ranked_theirs q = cat_cong _ _ q (λ d _. theirs (λ i. eqb (distance_of ask i) d))
-
-  pub rankable : Asked ask → (limit : ℕ) (entries distances : List ℕ) → limit ≡ w.seen.limit → length distances ≡ length entries
-      → Rankable ask.index.codes ask.index.shape.w ask.query limit marks (take (limit + 1) tally) entries distances
-  rankable a limit entries distances same places =
+  pub rankable : Asked ask → (entries distances : List ℕ) → length distances ≡ length entries
+      → Rankable ask.index.codes ask.index.shape.w (n ask.index) ask.query w.seen.limit (length entries) marks (take (w.seen.limit + 1) tally) entries distances
+  rankable a entries distances places =
       record {
-        few = omega (arith, e.long, a.lent.few);
-        coded = λ i m. omega (arith, in_parts i (n ask.index) ask.index.shape.w (e.theirs i m), a.lent.codes);
+        few = a.lent.few;
+        coded = omega (arith, a.lent.codes);
         asked = omega (arith, a.query);
-        measured = places;
+        marked = omega (arith, e.long);
+        listed = omega arith;
+        measured = omega (arith, places);
+        theirs = λ i _ m. e.theirs i m;
         tallied =
-            is_tab _ 0 (limit + 1) _ (length-take-le (limit + 1) tally (omega (arith, in_tally)))
-            (λ d l. get_or-take (limit + 1) tally d 0 l ∙ e.each d (omega arith) ∙ sym (ap length (theirs (λ i. eqb (distance_of ask i) d))));
+            is_tab _ 0 (w.seen.limit + 1) _ (length-take-le (w.seen.limit + 1) tally in_tally)
+            (λ d l. get_or-take (w.seen.limit + 1) tally d 0 l ∙ e.each d (omega arith));
       }
 
-  -- ranking then lists those of the entries that are within the limit
-  pub listed_in : {P : ℕ} {marks' tally' entries distances : List ℕ}
-      → Ranked ask.index.codes ask.index.shape.w ask.query w.seen.limit marks P marks' tally' entries distances
-      → (entries ≡ padded P (answers ask (is_marked marks) w.seen.limit)) × (distances ≡ padded P (map (distance_of ask) (answers ask (is_marked marks) w.seen.limit)))
-  listed_in {P} r =
-      let same = ranked_theirs (w.seen.limit + 1) in
-      (r.listed ∙ ap (padded P) same, r.measured ∙ ap (λ (l : List ℕ). padded P (map (distance_of ask) l)) same)
+  -- the lists are just the places, and the marks just the words, that ranking fills and clears
+  pub whole : {entries distances marks' tally' entries' distances' : List ℕ} → length distances ≡ length entries
+      → Ranked ask.index.codes ask.index.shape.w (n ask.index) ask.query w.seen.limit (length entries) marks entries distances marks' tally' entries' distances'
+      → let l = answers ask (is_marked marks) w.seen.limit in
+      (marks' ≡ padded (length marks) [])
+      × (entries' ≡ padded (length entries) l)
+      × (distances' ≡ padded (length entries) (map (distance_of ask) l))
+  whole places r = (
+    r.cleared ∙ over-padded _ [] marks e.long ∙ ap (λ (k : ℕ). padded k []) (sym e.long),
+    r.listed ∙ over-padded _ _ _ refl,
+    r.measured ∙ over-padded _ _ _ places,
+  )
 
 module _ (ask : Question) (k r N : ℕ) (marks tally : List ℕ) (w : Walk) (e : Ended ask (aim.Nearest k r) N w marks tally) where
   near_few : w.seen.near ≤ n ask.index

@@ -79,8 +79,11 @@ fn list(
         query: ask.query,
         limit,
     };
+    let n = index.entries();
+    let places = entries.len();
     let end = limit as usize + 1;
-    ranking::rank(asked, marks, &mut tally[..end], entries, distances);
+    let tally = &mut tally[..end];
+    ranking::rank(asked, n, places, marks, tally, entries, distances);
     Ok(w)
 }
 

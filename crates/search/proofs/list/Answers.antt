@@ -1,5 +1,5 @@
 -- `search::list` meets its contract. Assumes nothing.
-use mathlib.Core.Path.{refl, ◌∙◌}
+use mathlib.Core.Path.{◌∙◌}
 use Rattle.std.proofs.Common.{rules}
 use Rattle.theory.proofs.Filling.{zeros}
 use Rattle.search.proofs.Listing
@@ -22,16 +22,16 @@ pub rank-requires : goal.rank-requires
 rank-requires c =
     let l = rw (← c.ask.view_is) at (rw c.in-Ok.is at c.requires.listable) in
     let (codes, w) = c.codes.ensures in
-    rw (codes, w) (Listing.rankable _ _ _ _ l c.ask.invariant _ _ _ refl c.requires.places)
+    rw (codes, w, c.entries-n.ensures.value) (Listing.rankable _ _ _ _ l c.ask.invariant _ _ c.requires.places)
 
 pub returns : goal.returns
 returns c =
     let l = rw (← c.ask.view_is) at (rw c.in-Ok.is at c.requires.listable) in
     let (codes, w) = c.codes.ensures in
-    let (entries, distances) = Listing.listed_in _ _ _ _ l (rw (codes, w) at c.rank.ensures) in
+    let (marks, entries, distances) = Listing.whole _ _ _ _ l c.requires.places (rw (codes, w, c.entries-n.ensures.value) at c.rank.ensures) in
     record {
       same = search rules;
-      marks_after = c.rank.ensures.cleared;
+      marks_after = marks;
       entries_after = rw (c.in-Ok.is, ← c.ask.view_is) entries;
       distances_after = rw (c.in-Ok.is, ← c.ask.view_is) distances;
     }
