@@ -127,9 +127,9 @@ module _ (c : Handed) (h : Clear c) where
   pub four : (i : ℕ) → i < queries_in c → 4 * i + 4 ≤ length c.outcomes
   four i b = let told = h.told in omega arith
 
-  module _ {i : ℕ} {m e d : List ℕ} (o : List ℕ) (b : i < queries_in c) (query : List ℕ) (words : query ≡ query_of c i) where
-    pub asks : length m ≡ length c.marks → length o ≡ length c.outcomes → Scratch c.k e d → Asks c.index query c.k m (take (4 * i + 4 - 4 * i) (drop (4 * i) o)) e d
-    asks lm lo s =
+  module _ {i : ℕ} {m e d : List ℕ} (o : List ℕ) (b : i < queries_in c) (query : List ℕ) where
+    pub asks : length query ≡ c.index.shape.w → length m ≡ length c.marks → length o ≡ length c.outcomes → Scratch c.k e d → Asks c.index query c.k m (take (4 * i + 4 - 4 * i) (drop (4 * i) o)) e d
+    asks long lm lo s =
         let few = h.fits.few in
         let marked = h.marked in
         let told = h.told in
@@ -137,19 +137,19 @@ module _ (c : Handed) (h : Clear c) where
         let far = s.far in
         record {
           lent = lent_fits h.fits;
-          long = ap length words ∙ query_long c i b;
+          long = long;
           marked = omega arith;
           told = part_long (4 * i) (4 * i + 4 - 4 * i) o (omega arith) ∙ omega arith;
           near = omega arith;
           far = omega arith;
         }
 
-    pub next : {e₀ d₀ : List ℕ} {r₀ r : List Answer} {m' o' e' d' : List ℕ} {r' : List Answer} → Inv c e₀ d₀ r₀ i m o e d r → c.places ≡ length r
+    pub next : {e₀ d₀ : List ℕ} {r₀ r : List Answer} {m' o' e' d' : List ℕ} {r' : List Answer} → query ≡ query_of c i → Inv c e₀ d₀ r₀ i m o e d r → c.places ≡ length r
         → m' ≡ over (padded (mark_words (n c.index)) []) m → o' ≡ outcome_of (single c.index query c.k).answer
         → e' ≡ over (single c.index query c.k).entries e → d' ≡ over (single c.index query c.k).distances d
         → r' ≡ tab (record_of c.index.stars (single c.index query c.k)) (length (take (i * c.k + c.k - i * c.k) (drop (i * c.k) r)))
         → Inv c e₀ d₀ r₀ (i + 1) m' (put_mid (4 * i) (4 * i + 4 - 4 * i) o o') e' d' (put_mid (i * c.k) (i * c.k + c.k - i * c.k) r r')
-    next {e₀ = e₀} {d₀ = d₀} {r₀ = r₀} {r = r} {o' = o'} {r' = r'} v room mm oo ee dd rr =
+    next {e₀ = e₀} {d₀ = d₀} {r₀ = r₀} {r = r} {o' = o'} {r' = r'} words v room mm oo ee dd rr =
         let same : single c.index query c.k ≡ single_of c i = ap (λ (l : List ℕ). single c.index l c.k) words in
         let one : i + 1 ≡ suc i = add-one i in
         let outcomes_long : length (cat (outcome c) i) ≡ i * 4 = length-parts (outcome c) 4 i (λ z _. four_long (single_of c z).answer) in

@@ -1,8 +1,10 @@
 use mathlib.Core.Path.{◌≡◌, sym, ap, ◌∙◌}
 use Rattle.std.specs.Prelude.{Ok}
-use Prim.Native.Nat.{ℕ, ◌+◌, ◌*◌, ◌/◌, ◌≤◌, ◌<◌}
+use Prim.Native.Nat.{ℕ, ◌+◌, ◌-◌, ◌*◌, ◌/◌, ◌≤◌, ◌<◌}
+use native.Mathlib.Nat.{div-add-mod'}
 use native.Mathlib.Omega.{arith}
-use lib.ListN.{length}
+use lib.ListN.{length, take, drop}
+use Rattle.theory.proofs.Parts.{in_parts, part_long}
 use Rattle.scope.specs.Tables.{Index, n}
 use Rattle.scope.specs.Refusals.{allowed}
 use Rattle.scope.specs.Batch.{Handed, batch, batch_rows}
@@ -23,13 +25,20 @@ n_of x = n x
 abbrev w_of : Index → ℕ
 w_of x = x.shape.w
 
--- query i's records and its four numbers are there
+-- query i's records, its four numbers and its words are there
 module _ (s : Start) (fine : Ok tt ≡ allowed (batch_rows (H s))) {x : Index} (same : x ≡ s.args.index.now) {i : ℕ} (b : i < length s.args.queries.now / x.shape.w) where
   part_in : i * s.args.k + s.args.k ≤ length s.args.records.now
   part_in = places (H s) (clear_fine (H s) fine) i (query_in (H s) _ _ (ap w_of same) b)
 
   four_in : 4 * i + 4 ≤ length s.args.outcomes.now
   four_in = four (H s) (clear_fine (H s) fine) i (query_in (H s) _ _ (ap w_of same) b)
+
+  -- so many words as a code has, from query i's first one or from before it
+  words_in : (a : ℕ) → a ≤ i * x.shape.w → length (take (a + x.shape.w - a) (drop a s.args.queries.now)) ≡ s.args.index.now.shape.w
+  words_in a l =
+      let w = x.shape.w in
+      let inside : i * w + w ≤ length s.args.queries.now = omega (arith, in_parts i (length s.args.queries.now / w) w b, div-add-mod' (length s.args.queries.now) w) in
+      part_long a (a + w - a) s.args.queries.now (omega arith) ∙ omega (arith, ap w_of same)
 
 pub returns-in_err-refused : goal.returns-in_err-refused
 returns-in_err-refused c =
@@ -55,6 +64,10 @@ loop-i-init c =
     let words = c.div_ceil.ensures in
     start (H s) _ _ _ _ c.div_ceil.result (omega arith) c.clear.ensures
 
+-- a query's part lies in the records, so that where it begins and ends fits
+pub slice_bounds-answer-end-in-loop-i-2 : goal.slice_bounds-answer-end-in-loop-i-2
+slice_bounds-answer-end-in-loop-i-2 c = omega (arith, part_in (search) c.in_ok-refused.ensures c.index.view_is c.loop-i-test.true)
+
 pub overflow_mul-place : goal.overflow_mul-place
 overflow_mul-place c = omega (arith, part_in (search) c.in_ok-refused.ensures c.index.view_is c.loop-i-test.true)
 
@@ -67,9 +80,6 @@ overflow_add-place c = omega (arith, part_in (search) c.in_ok-refused.ensures c.
 pub offset_bounds-records-place : goal.offset_bounds-records-place
 offset_bounds-records-place c = omega (arith, part_in (search) c.in_ok-refused.ensures c.index.view_is c.loop-i-test.true)
 
-pub slice_bounds-answer-end-in-loop-i-2 : goal.slice_bounds-answer-end-in-loop-i-2
-slice_bounds-answer-end-in-loop-i-2 c = omega (arith, part_in (search) c.in_ok-refused.ensures c.index.view_is c.loop-i-test.true)
-
 pub answer-requires : goal.answer-requires
 answer-requires c =
     let s : Start = search in
@@ -77,7 +87,8 @@ answer-requires c =
     let w = ap w_of c.index.view_is in
     let near = c.requires.near in
     let far = c.requires.far in
-    asks (H s) h c.loop-i.outcomes (query_in (H s) _ _ w c.loop-i-test.true) _ (query_is (H s) _ _ w) (c.loop-i.auto.marks ∙ c.clear.auto.list) c.loop-i.auto.outcomes
+    let words = words_in s c.in_ok-refused.ensures c.index.view_is c.loop-i-test.true in
+    asks (H s) h c.loop-i.outcomes (query_in (H s) _ _ w c.loop-i-test.true) _ (words _ (omega arith)) (c.loop-i.auto.marks ∙ c.clear.auto.list) c.loop-i.auto.outcomes
     (record { near = omega arith; far = omega arith })
 
 pub loop-i-preserved : goal.loop-i-preserved

@@ -29,8 +29,9 @@ returns-in_err-column c = passed_on c.from_residual.ensures.1 ∙ across-refused
 pub returns-in_err-row : goal.returns-in_err-row
 returns-in_err-row c = passed_on c.from_residual-in_err-row.ensures.1 ∙ up-refused _ _ _ _ _ (sym c.place_of.ensures ∙ c.in_ok-column.was) (sym c.place_of-2.ensures ∙ c.in_err-row.was)
 
+-- a column and a row are below 8
 pub overflow_mul-result : goal.overflow_mul-result
-overflow_mul-result c = omega (arith, place_is _ _ _ (sym c.place_of-2.ensures ∙ c.in_ok-row.was))
+overflow_mul-result c = omega (arith, place_is _ _ _ (sym c.place_of.ensures ∙ c.in_ok-column.was), place_is _ _ _ (sym c.place_of-2.ensures ∙ c.in_ok-row.was))
 
 pub overflow_add-result : goal.overflow_add-result
 overflow_add-result c = omega (arith, place_is _ _ _ (sym c.place_of.ensures ∙ c.in_ok-column.was), place_is _ _ _ (sym c.place_of-2.ensures ∙ c.in_ok-row.was))

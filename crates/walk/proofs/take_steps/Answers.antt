@@ -32,10 +32,14 @@ module _ (c : After-open_all) where
   abbrev N : ℕ
   N = c.loop-at.at
 
+  reached : N ≤ c.args.top
+  reached = omega arith
+
   not_yet : enough_after c.args.ask.now c.args.aim N ≡ false
   not_yet =
       let a = rw (c.own.view_is, c.again-own.ensures) at c.own.invariant in
-      told a c.requires.top_bound c.loop-at.invariant.0 c.loop-at-test.true ∙ le-ltb _ _ c.if-w-at.false
+      let within : N ≤ c.loop-at.w.seen.limit = omega arith in
+      told a c.requires.top_bound c.loop-at.invariant.0 reached ∙ le-ltb _ _ within
 
   stepped : (end : Met) → c.open_all.result ≡ end → Stepped c.args.ask.now c.args.aim N c.open_all.new.self end c.open_all.new.marks c.open_all.new.tally
   unfolding opens
@@ -47,7 +51,7 @@ module _ (c : After-open_all) where
 
   further : c.open_all.result ≡ Clear
       → Stepping.Far c.args.ask.now c.args.aim (enough_after c.args.ask.now c.args.aim) c.args.top (N + 1) c.open_all.new.self c.open_all.new.marks c.open_all.new.tally
-  further ok = Stepping.far-more _ _ _ _ _ _ _ _ c.loop-at.invariant.0 c.loop-at-test.true not_yet _ _ _ (stepped Clear ok)
+  further ok = Stepping.far-more _ _ _ _ _ _ _ _ c.loop-at.invariant.0 reached not_yet _ _ _ (stepped Clear ok)
 
 pub loop-at-init : goal.loop-at-init
 loop-at-init c = (Stepping.far_none _ _ _ _ _ _ _ c.requires.top_bound.1 c.start-w.ensures c.requires.fresh, refl, refl)
@@ -56,7 +60,7 @@ pub returns-then-w-at : goal.returns-then-w-at
 returns-then-w-at c =
     let a = rw (c.own.view_is, c.again-own.ensures) at c.own.invariant in
     let far = c.loop-at.invariant.0 in
-    let l = c.loop-at-test.true in
+    let l : c.loop-at.at ≤ c.args.top = omega arith in
     Stepping.walked-enough _ _ _ _ _ _ _ _ far l (told a c.requires.top_bound far l ∙ lt-ltb _ _ c.if-w-at.true)
 
 pub nonzero_rem-step : goal.nonzero_rem-step
@@ -76,14 +80,14 @@ open_all-requires c =
     let (ask, z) = c.of-table.ensures in
     let a = rw (c.own.view_is, c.again-own.ensures) at c.own.invariant in
     let going = c.loop-at.invariant.0.going in
-    let l = c.loop-at-test.true in
+    let l : c.loop-at.at ≤ c.args.top = omega arith in
     let t = c.requires.top_bound.0 in
     rw (ask, c.again-own.ensures) (record { room = omega (arith, going.opened, opened_few c.args.ask.now (facts _ a.lent.known) c.loop-at.at); counted = going.counted })
 
 pub returns-in_err-open_all : goal.returns-in_err-open_all
 returns-in_err-open_all c =
     let s : After-open_all = search in
-    rw (passed_on c.from_residual.ensures.1) (Stepping.walked-bad _ _ _ _ _ _ _ _ c.loop-at.invariant.0 c.loop-at-test.true (not_yet s) _ _ _ _ (stepped s _ c.in_err-open_all.was))
+    rw (passed_on c.from_residual.ensures.1) (Stepping.walked-bad _ _ _ _ _ _ _ _ c.loop-at.invariant.0 (reached s) (not_yet s) _ _ _ _ (stepped s _ c.in_err-open_all.was))
 
 pub loop-at-preserved : goal.loop-at-preserved
 loop-at-preserved c =

