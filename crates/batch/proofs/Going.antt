@@ -79,9 +79,9 @@ zeros_are (suc q) =
     (λ i. zeros_are q i ++ 0 ∷ 0 ∷ 0 ∷ 0 ∷ []) ∙ sym (ap (λ (j : ℕ). padded j []) is ∙ cat_split (λ p. get_or [] p 0 ∷ []) (4 * q) 4)
 
 module _ (c : Handed) (h : Clear c) (e : c.k ≡ 0) where
-  all_told : batch_outcomes c ≡ padded (4 * queries_in c) []
+  nothing-asked : batch_outcomes c ≡ padded (4 * queries_in c) []
   unfolding batch_outcomes
-  all_told =
+  nothing-asked =
       cat_cong (outcome c) (λ _. 0 ∷ 0 ∷ 0 ∷ 0 ∷ []) (queries_in c)
       (λ i b. ap (λ (k : ℕ). outcome_of (single c.index (query_of c i) k).answer) e ∙ none_asked_lem c.index (query_of c i) h.fits (query_long c i b)) ∙ zeros_are (queries_in c)
 
@@ -90,12 +90,12 @@ module _ (c : Handed) (h : Clear c) (e : c.k ≡ 0) where
   no_record = cat-none (records c) (queries_in c) (λ i _. ap (tab (record_of c.index.stars (single_of c i))) e)
 
   -- the marks and the outcomes are cleared, and the other lists stay
-  pub none-asked : {m o : List ℕ} (near far : List ℕ) (r : List Answer) (words : ℕ) → words ≡ mark_words (n c.index) → m ≡ over (padded words []) c.marks → o ≡ over (padded (4 * queries_in c) []) c.outcomes
+  pub none_asked-end : {m o : List ℕ} (near far : List ℕ) (r : List Answer) (words : ℕ) → words ≡ mark_words (n c.index) → m ≡ over (padded words []) c.marks → o ≡ over (padded (4 * queries_in c) []) c.outcomes
       → ◌≡◌ {A = BatchEnd × List ℕ × List ℕ} (fills 0 m o r, near, far) (fill_end c near far r)
   unfolding last_held
-  none-asked near far r words is mm oo =
+  none_asked-end near far r words is mm oo =
       let none : total c ≡ 0 = all-places c h ∙ ap (λ (k : ℕ). queries_in c * k) e ∙ omega arith in
-      rw (eq-eqb (total c) 0 none, end_clear c h r, all_told, no_record) (λ j. (fills 0 ((mm ∙ ap (λ (z : ℕ). over (padded z []) c.marks) is) j) (oo j) r, near, far))
+      rw (eq-eqb (total c) 0 none, end_clear c h r, nothing-asked, no_record) (λ j. (fills 0 ((mm ∙ ap (λ (z : ℕ). over (padded z []) c.marks) is) j) (oo j) r, near, far))
 
 -- ---- a query
 

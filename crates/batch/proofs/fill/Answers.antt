@@ -9,7 +9,7 @@ use Rattle.scope.specs.Batch.{Handed, batch, batch_rows}
 use Rattle.scope.proofs.Rows.{passed_on}
 use Rattle.scope.proofs.Shapes.{facts}
 use Rattle.batch.proofs.Refusing.{clear_fine}
-use Rattle.batch.proofs.Going.{refused-end, start, query_in, query_is, none-asked, places, four, asks, next, finish}
+use Rattle.batch.proofs.Going.{refused-end, start, query_in, query_is, none_asked-end, places, four, asks, next, finish}
 use Rattle.batch.proofs.fill.Goals as goal
 use Rattle.batch.proofs.fill.Goals.{Start}
 
@@ -61,7 +61,7 @@ returns-then-k-eq0 c =
     let same = ap n_of c.index.view_is in
     let words = c.div_ceil.ensures in
     let told = rw (ap w_of c.index.view_is) at c.clear-then-k-eq0.ensures in
-    (c.in_ok-refused.ensures, none-asked (H s) h c.if-k-eq0.true _ _ _ c.div_ceil.result (omega arith) c.clear.ensures told)
+    (c.in_ok-refused.ensures, none_asked-end (H s) h c.if-k-eq0.true _ _ _ c.div_ceil.result (omega arith) c.clear.ensures told)
 
 pub loop-i-init : goal.loop-i-init
 loop-i-init c =
