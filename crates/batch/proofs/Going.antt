@@ -3,17 +3,17 @@ use Rattle.std.specs.Prelude.{Err}
 use mathlib.Core.Path.{◌≡◌, refl, sym, ap, ◌∙◌}
 use mathlib.Core.Logic.{⊎_elim}
 use mathlib.Core.Bool.{true, false}
-use mathlib.Core.List.{List, [], ◌∷◌}
+use mathlib.Core.List.{List, [], ◌∷◌, ◌++◌}
 use Prim.Native.Nat.{ℕ, zero, suc, ◌+◌, ◌-◌, ◌*◌, ◌/◌, ◌≤◌, ◌<◌}
 use native.Mathlib.Nat.{suc-mul}
 use native.Mathlib.Numerals.{add-one}
 use native.Mathlib.Omega.{arith}
 use lib.Dec.{eqb}
-use lib.ListN.{length, take, drop}
+use lib.ListN.{length, get_or, take, drop}
 use borrow.Author.Tests.{eq-eqb, ne_eqb}
 use borrow.Rule.Slice.PartMut.{put_mid}
 use Rattle.theory.specs.Lists.{cat, tab, over, padded}
-use Rattle.theory.proofs.Lists.{over_again, length-tab}
+use Rattle.theory.proofs.Lists.{over_again, length-tab, cat_cong, cat_split, cat-none}
 use Rattle.theory.proofs.Parts.{in_parts, over-next, length-parts, part_long}
 use Rattle.theory.proofs.Tests.{either, both_ways, eq-or_ne}
 use Rattle.scope.specs.declared.Refusal.{Refusal}
@@ -25,7 +25,7 @@ use Rattle.scope.specs.Search.{K}
 use Rattle.scope.specs.Calls.{SearchEnd}
 use Rattle.scope.specs.Batch.{Handed, queries_in, batch_rows, batch_number, single, single_of, query_of, outcome_of, record_of, batch_outcomes, batch_records, BatchEnd, fills, batch_end}
 use Rattle.scope.proofs.Rows.{one_fits, numbered}
-use Rattle.scope.proofs.Single.{single-near, single_far}
+use Rattle.scope.proofs.Single.{single-near, single_far, none_asked_lem}
 use Rattle.scope.proofs.Batch.{Clear, clear, end_refused, end_clear, query_long, four_long}
 use Rattle.batch.specs.Part.{Asks, Scratch, total, last_held, fill_end}
 use Rattle.shapes.proofs.Accepting.{lent_fits}
@@ -68,6 +68,34 @@ refused-end c f e d r h =
 pub start : (c : Handed) (e d m : List ℕ) (r : List Answer) (words : ℕ) → words ≡ mark_words (n c.index) → m ≡ over (padded words []) c.marks → Inv c e d r 0 m c.outcomes e d r
 unfolding cat held
 start c e d m r words is h = record { marks = h ∙ ap (λ (z : ℕ). over (padded z []) c.marks) is; outcomes = refl; near = refl; far = refl; told = refl }
+
+-- ---- with k = 0 nothing is asked
+
+zeros_are : (q : ℕ) → cat (λ _. 0 ∷ 0 ∷ 0 ∷ 0 ∷ []) q ≡ padded (4 * q) []
+unfolding cat
+zeros_are zero = refl
+zeros_are (suc q) =
+    let is : 4 * suc q ≡ 4 * q + 4 = omega arith in
+    (λ i. zeros_are q i ++ 0 ∷ 0 ∷ 0 ∷ 0 ∷ []) ∙ sym (ap (λ (j : ℕ). padded j []) is ∙ cat_split (λ p. get_or [] p 0 ∷ []) (4 * q) 4)
+
+module _ (c : Handed) (h : Clear c) (e : c.k ≡ 0) where
+  nothing-asked : batch_outcomes c ≡ padded (4 * queries_in c) []
+  unfolding batch_outcomes
+  nothing-asked =
+      cat_cong (outcome c) (λ _. 0 ∷ 0 ∷ 0 ∷ 0 ∷ []) (queries_in c)
+      (λ i b. ap (λ (k : ℕ). outcome_of (single c.index (query_of c i) k).answer) e ∙ none_asked_lem c.index (query_of c i) h.fits (query_long c i b)) ∙ zeros_are (queries_in c)
+
+  no_record : batch_records c ≡ []
+  unfolding batch_records cat
+  no_record = cat-none (records c) (queries_in c) (λ i _. ap (tab (record_of c.index.stars (single_of c i))) e)
+
+  -- the marks and the outcomes are cleared, and the other lists stay
+  pub none_asked-end : {m o : List ℕ} (near far : List ℕ) (r : List Answer) (words : ℕ) → words ≡ mark_words (n c.index) → m ≡ over (padded words []) c.marks → o ≡ over (padded (4 * queries_in c) []) c.outcomes
+      → ◌≡◌ {A = BatchEnd × List ℕ × List ℕ} (fills 0 m o r, near, far) (fill_end c near far r)
+  unfolding last_held
+  none_asked-end near far r words is mm oo =
+      let none : total c ≡ 0 = all-places c h ∙ ap (λ (k : ℕ). queries_in c * k) e ∙ omega arith in
+      rw (eq-eqb (total c) 0 none, end_clear c h r, nothing-asked, no_record) (λ j. (fills 0 ((mm ∙ ap (λ (z : ℕ). over (padded z []) c.marks) is) j) (oo j) r, near, far))
 
 -- ---- a query
 

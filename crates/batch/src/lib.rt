@@ -127,10 +127,16 @@ pub fn fill(
     refused(index, queries, k, marks, outcomes, records.len())?;
     codes::clear(marks, index.stars.len().div_ceil(64));
     let w = index.shape.w as usize;
+    let count = queries.len() / w;
+    // with k = 0 each query's outcome is four zeros, and a search for it would pass over all marks
+    if k == 0 {
+        codes::clear(outcomes, 4 * count);
+        return Ok(());
+    }
     let part = k as usize;
-    // by index: k may be 0, which is no chunk's length, and after chunks_exact_mut a proof knows no element;
+    // by index: after chunks_exact_mut a proof knows no element;
     // the queries alone in chunks are no plainer, as a proof must then say what is left of them before each turn
-    for i in 0..queries.len() / w {
+    for i in 0..count {
         let a = i * w;
         let first = 4 * i;
         let place = i * part;

@@ -47,7 +47,9 @@ fn fresh(marks: &mut [u64]) -> [u32; 257]
     [0; 257]
 }
 
-// After a walk: lists the marked entries within its limit, as many as there are places, and clears the marks; or zeros, where it met a bad bucket.
+// After a walk: lists the marked entries within its limit, as many as there are places, and clears the marks; or zeros, where it met a bad bucket. Inlined: a walk's numbers
+// are then not stored and read again between the two.
+#[inline(always)]
 fn list(
     ask: &Question<'_>,
     walked: Result<Walk, Refusal>,
@@ -87,7 +89,9 @@ fn list(
     Ok(w)
 }
 
-// Lists the k nearest entries, where none of refusals 1 to 5 fits, in lists of just the places that it fills.
+// Lists the k nearest entries, where none of refusals 1 to 5 fits, in lists of just the places that it fills. Not inlined: a call
+// that is refused takes no stack for the tally.
+#[inline(never)]
 fn list_nearest(
     ask: &Question<'_>,
     k: u32,
@@ -135,7 +139,8 @@ fn list_within(
     })
 }
 
-// The k nearest entries, by distance and then by number. The lists stand apart, as C lends them.
+// The k nearest entries, by distance and then by number. The lists stand apart, as C lends them. Inlined: what C hands in is tested in registers, and a refused call stores no index.
+#[inline(always)]
 pub fn nearest<'a>(
     index: &Index<'a>,
     query: &'a [u64],

@@ -90,6 +90,8 @@ struct Room(usize, usize, usize);
 
 const AMPLE: Room = Room(2, 6, 7);
 
+const MARKS_ONLY: Room = Room(1, 0, 0);
+
 const NONE: Room = Room(0, 0, 0);
 
 #[derive(Clone, Copy)]
@@ -155,6 +157,14 @@ fn ample<'a>(name: &'a str, index: &'a Index<'a>, query: &'a [u64]) -> Case<'a> 
         index,
         query,
         room: AMPLE,
+    }
+}
+
+// What a verdict over 64 entries or fewer needs, and no more.
+fn just_marks<'a>(name: &'a str, index: &'a Index<'a>, query: &'a [u64]) -> Case<'a> {
+    Case {
+        room: MARKS_ONLY,
+        ..ample(name, index, query)
     }
 }
 
@@ -309,14 +319,13 @@ fn rooms(rt: &impl Print) -> io::Result<()> {
 // A call that each of refusals 1 to 7 fits, then with one after the other mended. Starts of 77 lie above n.
 fn first_that_fits(rt: &impl Print) -> io::Result<()> {
     let few = [0, 1, 0xff, 3];
-    let marks_only = Room(1, 0, 0);
     mended(rt, "1 to 7 fit", 3, &few, &[77; 2055], &[3, 3], NONE)?;
     mended(rt, "2 to 7 fit", 1, &few, &[77; 2055], &[3, 3], NONE)?;
     mended(rt, "3 to 7 fit", 1, &CODES, &[77; 2055], &[3, 3], NONE)?;
     mended(rt, "4 to 7 fit", 1, &CODES, &[77; 2056], &[3, 3], NONE)?;
     mended(rt, "5 to 7 fit", 1, &CODES, &[77; 2056], &[3], NONE)?;
-    mended(rt, "6 and 7 fit", 1, &CODES, &[77; 2056], &[3], marks_only)?;
-    lend(rt, "6 fits", Within(1), marks_only)
+    mended(rt, "6 and 7 fit", 1, &CODES, &[77; 2056], &[3], MARKS_ONLY)?;
+    lend(rt, "6 fits", Within(1), MARKS_ONLY)
 }
 
 fn mended(
@@ -459,7 +468,7 @@ fn without_stars<'a>(starts: &'a [u32], codes: &'a [u64]) -> Index<'a> {
 fn verdicts(rt: &impl Print) -> io::Result<()> {
     let a = Lists::built();
     let index = a.index();
-    let case = ample("A", &index, &[3]);
+    let case = just_marks("A", &index, &[3]);
     for (t, g) in [
         (0, 0),
         (0, 64),
@@ -491,7 +500,7 @@ fn judge_alike(
     let mut starts = [77; 2056];
     let mut ids = [77; 16];
     let index = built(A, stars, codes, &mut starts, &mut ids);
-    ample(name, &index, &[3]).judge(rt, t, g)
+    just_marks(name, &index, &[3]).judge(rt, t, g)
 }
 
 // The builder's tables, in lists that are lent. Its answer is dropped: had it refused, each start would be 77, and the searches be refused or find every bucket empty.
@@ -514,12 +523,12 @@ fn built<'a>(
 
 fn verdicts_over_unsound_tables(rt: &impl Print) -> io::Result<()> {
     let a = spoiled(|a| a.set_id(7, 0, 9));
-    ample("bad in step 7", &a.index(), &[3]).judge(rt, 2, 2)?;
+    just_marks("bad in step 7", &a.index(), &[3]).judge(rt, 2, 2)?;
     let a = spoiled(|a| a.set_id(6, 0, 9));
-    ample("bad in step 6", &a.index(), &[3]).judge(rt, 2, 2)?;
+    just_marks("bad in step 6", &a.index(), &[3]).judge(rt, 2, 2)?;
     let (starts, ids) = few_listed(&[0]);
     let index = over_a(&starts, &ids);
-    let few = ample("0 listed", &index, &[3]);
+    let few = just_marks("0 listed", &index, &[3]);
     few.judge(rt, 1, 64)?;
     few.judge(rt, 2, 64)?;
     let case = Case {

@@ -9,9 +9,9 @@ use Rattle.theory.proofs.Tests.{or-false_left}
 use Rattle.scope.specs.declared.Refusal.{Refusal}
 use Rattle.scope.specs.declared.Shape.{Shape}
 use Rattle.scope.specs.Shape.{listed}
-use Rattle.scope.specs.Refusals.{Rows, unless, unlisted}
+use Rattle.scope.specs.Refusals.{Rows, unless, unlisted, one_to_three, allowed}
 use Rattle.scope.specs.Tables.{Index}
-use Rattle.scope.proofs.Rows.{Fits, unless-append, passed, refuses_all}
+use Rattle.scope.proofs.Rows.{Fits, fits, unless-append, passed, refuses_all}
 use Rattle.shapes.specs.Lent.{Lent}
 
 -- an accepted index is one that fits
@@ -20,6 +20,10 @@ fits_lent l = record { shape = l.known; few = l.few; whole = l.codes; starts = l
 
 pub lent_fits : {x : Index} → Fits x → Lent x
 lent_fits f = record { known = f.shape; few = f.few; codes = f.whole; starts = f.starts; ids = f.ids }
+
+-- an index that the early check lets pass is one
+pub let_pass : (x : Index) → Ok tt ≡ allowed (one_to_three x) → Lent x
+let_pass x e = lent_fits (fits x (passed (one_to_three x) tt e).0)
 
 -- a shape that is not refused is listed
 pub accepts : (sh : Shape) {s : Shape} → Ok s ≡ unless (unlisted sh) Err (Ok sh) → (listed sh ≡ true) × (s ≡ sh)

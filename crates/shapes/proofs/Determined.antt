@@ -17,6 +17,8 @@ use Rattle.shapes.specs.contracts.shape.ListedShape.starts_before as starts_befo
 use Rattle.shapes.proofs.shape.ListedShape.starts_before.Reads as starts_before_reads
 use Rattle.shapes.specs.contracts.shape.ListedShapeTryFromShape.try_from as try_from
 use Rattle.shapes.proofs.shape.ListedShapeTryFromShape.try_from.Reads as try_from_reads
+use Rattle.shapes.specs.contracts.accepted.refused_early as refused_early
+use Rattle.shapes.proofs.accepted.refused_early.Reads as refused_early_reads
 use Rattle.shapes.specs.contracts.accepted.Accepted.of as of
 use Rattle.shapes.proofs.accepted.Accepted.of.Reads as of_reads
 use Rattle.shapes.specs.contracts.accepted.Accepted.entries as entries
@@ -53,6 +55,9 @@ starts_before-Determined κs a x y = result
 
 pub try_from-Determined : Determined try_from.ended try_from_reads.Post
 try_from-Determined κs a x y = result
+
+pub refused_early-Determined : Determined refused_early.ended refused_early_reads.Post
+refused_early-Determined κs a x y = result
 
 pub of-Determined : Determined of.ended of_reads.Post
 of-Determined κs a x y = result

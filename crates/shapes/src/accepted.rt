@@ -1,6 +1,6 @@
 // An index that none of refusals 1 to 3 fits.
 ghost use Rattle.std.specs.Prelude.{◌≡◌, not, ◌||◌, ◌*◌, ◌+◌, ◌≤◌, ◌<◌, eqb, ltb, get_or};
-ghost use Rattle.scope.specs.Refusals.{one_to_three, unless, mark_words};
+ghost use Rattle.scope.specs.Refusals.{one_to_three, unless, allowed, mark_words};
 ghost use Rattle.scope.specs.Shape as spec;
 ghost use Rattle.scope.specs.Tables.{n};
 
@@ -25,6 +25,21 @@ fn short(shape: ListedShape, n: usize, starts: usize, ids: usize) -> bool
     starts < shape.starts_before(m) || ids < m * n
 }
 
+// The early check: refusals 1 to 3, in order. Its answer holds none of the lists, so that a caller may write to them and still give it.
+pub fn refused_early(index: &Index<'_>) -> Result<(), Refusal>
+    ensures { result ≡ allowed (one_to_three index.now) }
+{
+    let shape = ListedShape::try_from(index.shape)?;
+    let n = index.stars.len();
+    if misfit(shape, n, index.codes.len()) {
+        return Err(Refusal::Catalogue);
+    }
+    if short(shape, n, index.starts.len(), index.ids.len()) {
+        return Err(Refusal::Tables);
+    }
+    Ok(())
+}
+
 // Flat, like Index, so that each list is one step away; only the shape is of another type.
 #[derive(Drop)]
 pub struct Accepted<'a> {
@@ -47,20 +62,13 @@ impl<'a> Model for Accepted<'a> {
 }
 
 impl<'a> Accepted<'a> {
-    // The early check: refusals 1 to 3, in order.
+    // The index itself, where the early check does not refuse it.
     pub fn of(index: &Index<'a>) -> Result<Accepted<'a>, Refusal>
         ensures { result ≡ unless (one_to_three index.now) Err (Ok index.now) }
     {
-        let shape = ListedShape::try_from(index.shape)?;
-        let n = index.stars.len();
-        if misfit(shape, n, index.codes.len()) {
-            return Err(Refusal::Catalogue);
-        }
-        if short(shape, n, index.starts.len(), index.ids.len()) {
-            return Err(Refusal::Tables);
-        }
+        refused_early(index)?;
         Ok(Accepted {
-            shape,
+            shape: ListedShape { shape: index.shape },
             stars: index.stars,
             codes: index.codes,
             starts: index.starts,

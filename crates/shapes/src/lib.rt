@@ -4,5 +4,5 @@
 mod accepted;
 mod shape;
 
-pub use accepted::Accepted;
+pub use accepted::{Accepted, refused_early};
 pub use shape::{ListedShape, listed, tables};

@@ -11,7 +11,7 @@ use Rattle.scope.specs.Batch.{Handed, batch, batch_rows}
 use Rattle.scope.proofs.Rows.{passed_on}
 use Rattle.scope.proofs.Shapes.{facts}
 use Rattle.batch.proofs.Refusing.{clear_fine}
-use Rattle.batch.proofs.Going.{refused-end, start, query_in, query_is, places, four, asks, next, finish}
+use Rattle.batch.proofs.Going.{refused-end, start, query_in, query_is, none_asked-end, places, four, asks, next, finish}
 use Rattle.batch.proofs.fill.Goals as goal
 use Rattle.batch.proofs.fill.Goals.{Start}
 
@@ -52,10 +52,25 @@ clear-requires c =
     let words = c.div_ceil.ensures in
     omega arith
 
-pub nonzero_div-i-end : goal.nonzero_div-i-end
-nonzero_div-i-end c =
+pub nonzero_div-count : goal.nonzero_div-count
+nonzero_div-count c =
     let h = clear_fine _ c.in_ok-refused.ensures in
     rw (ap w_of c.index.view_is) (facts _ h.fits.shape).some_words
+
+pub clear-requires-then-k-eq0 : goal.clear-requires-then-k-eq0
+clear-requires-then-k-eq0 c =
+    let h = clear_fine _ c.in_ok-refused.ensures in
+    let told = h.told in
+    rw (ap w_of c.index.view_is) (omega arith)
+
+pub returns-then-k-eq0 : goal.returns-then-k-eq0
+returns-then-k-eq0 c =
+    let s : Start = search in
+    let h = clear_fine (H s) c.in_ok-refused.ensures in
+    let same = ap n_of c.index.view_is in
+    let words = c.div_ceil.ensures in
+    let told = rw (ap w_of c.index.view_is) at c.clear-then-k-eq0.ensures in
+    (c.in_ok-refused.ensures, none_asked-end (H s) h c.if-k-eq0.true _ _ _ c.div_ceil.result (omega arith) c.clear.ensures told)
 
 pub loop-i-init : goal.loop-i-init
 loop-i-init c =

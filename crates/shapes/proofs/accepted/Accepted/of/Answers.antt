@@ -1,56 +1,20 @@
--- `Accepted::of` meets its contract: its three tests are the five rows of refusals 1 to 3. Assumes nothing.
-use mathlib.Core.Path.{◌≡◌, refl, sym, ap, ◌∙◌}
-use mathlib.Core.Bool.{Bool, true, false, not, ◌||◌, cond}
-use Prim.Native.Nat.{◌*◌}
-use lib.Dec.{eqb, ltb}
-use lib.ListN.{length}
-use Rattle.std.proofs.Common.{Result, Ok, Err}
-use Rattle.scope.specs.declared.Refusal.{Refusal}
-use Rattle.scope.specs.declared.Refusal.TheVariants.{Catalogue, Tables}
-use Rattle.scope.specs.Shape.{listed, m, starts_before}
-use Rattle.scope.specs.Tables.{Index, n}
-use Rattle.scope.specs.Refusals.{unless, one_to_three}
-use Rattle.scope.proofs.Rows.{passed_on}
-use Rattle.shapes.proofs.Accepting.{accepts, refuses_first}
+-- `Accepted::of` meets its contract: the early check decides, and an index that it lets pass fits. Assumes nothing.
+use mathlib.Core.Path.{sym, ap, ◌∙◌}
+use Rattle.std.specs.Prelude.{Ok}
+use Rattle.scope.specs.Tables.{Index}
+use Rattle.scope.specs.Refusals.{one_to_three}
+use Rattle.scope.proofs.Rows.{unless-none, passed, passed_on, refuses_all}
+use Rattle.shapes.proofs.Accepting.{let_pass}
 use Rattle.shapes.proofs.accepted.Accepted.of.Goals as goal
 
--- refusals 2 and 3 as one test each
-abbrev misfit : Index → Bool
-misfit x = ltb 65536 (n x) || not (eqb (length x.codes) (n x * x.shape.w))
+pub returns-in_err-refused_early : goal.returns-in_err-refused_early
+returns-in_err-refused_early c = passed_on c.from_residual.ensures.1 ∙ sym (refuses_all (one_to_three _) tt c.in_err-refused_early.ensures (Ok _))
 
-abbrev short : Index → Bool
-short x = ltb (length x.starts) (starts_before x.shape (m x.shape)) || ltb (length x.ids) (m x.shape * n x)
+pub invariant_of-result : goal.invariant_of-result
+invariant_of-result c = rw (ap (λ (x : Index). x.shape) c.index.view_is) (let_pass _ c.in_ok-refused_early.ensures).known
 
-cond-or : {A : Type 0} (a b : Bool) (x y : A) → cond a x (cond b x y) ≡ cond (a || b) x y
-cond-or true b x y = refl
-cond-or false b x y = refl
-
--- of a listed shape these two decide
-listed_is : (x : Index) (two three : Bool) → listed x.shape ≡ true → misfit x ≡ two → short x ≡ three
-    → ◌≡◌ {A = Result Index Refusal} (cond two (Err Catalogue) (cond three (Err Tables) (Ok x))) (unless (one_to_three x) Err (Ok x))
-unfolding unless
-listed_is x two three known p q =
-    rw (← p, ← q, known) (sym (cond-or (ltb 65536 (n x)) _ (Err Catalogue) _ ∙ ap (cond (misfit x) (Err Catalogue)) (cond-or (ltb (length x.starts) _) _ (Err Tables) (Ok x))))
-
-pub returns-in_err-shape : goal.returns-in_err-shape
-returns-in_err-shape c = rw (passed_on c.from_residual.ensures.1, ← c.index.view_is) (refuses_first _ _ _ c.in_err-shape.ensures)
-
-pub returns-then-misfit : goal.returns-then-misfit
-returns-then-misfit c =
-    let (known, same) = accepts _ c.in_ok-shape.ensures in
-    let two = rw same at c.misfit.ensures in
-    rw (← c.index.view_is) (listed_is _ true _ known (sym two ∙ c.if-misfit.true) refl)
-
-pub returns-then-short : goal.returns-then-short
-returns-then-short c =
-    let (known, same) = accepts _ c.in_ok-shape.ensures in
-    let two = rw same at c.misfit.ensures in
-    let three = rw same at c.short.ensures in
-    rw (← c.index.view_is) (listed_is _ false true known (sym two ∙ c.if-misfit.false) (sym three ∙ c.if-short.true))
+pub invariant_of-result-2 : goal.invariant_of-result-2
+invariant_of-result-2 c = rw c.index.view_is (let_pass _ c.in_ok-refused_early.ensures)
 
 pub returns : goal.returns
-returns c =
-    let (known, same) = accepts _ c.in_ok-shape.ensures in
-    let two = rw same at c.misfit.ensures in
-    let three = rw same at c.short.ensures in
-    rw (same, ← c.index.view_is) (listed_is _ false false known (sym two ∙ c.if-misfit.false) (sym three ∙ c.if-short.false))
+returns c = rw c.index.view_is (sym (unless-none (one_to_three _) _ _ (passed (one_to_three _) tt c.in_ok-refused_early.ensures).0))
