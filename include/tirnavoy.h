@@ -23,7 +23,7 @@ enum tirnavoy_refusal {
     TIRNAVOY_SHAPE = 1,      /* w is not 1, 2 or 4, or m is not from 4 * w to 16 * w */
     TIRNAVOY_CATALOGUE = 2,  /* more than 65,536 stars, or the code list is not n * w long */
     TIRNAVOY_TABLES = 3,     /* starts or ids too short */
-    TIRNAVOY_QUERY = 4,      /* the query is not w words long, or the queries no whole number of codes; r, t, g or the step is above q = 64 * w */
+    TIRNAVOY_QUERY = 4,      /* the query or the mask is not w words long, or the queries no whole number of codes; r, t, g or the step is above q = 64 * w */
     TIRNAVOY_ROOM = 5,       /* too few mark words; nearest: an answer list shorter than the smaller of k and n */
     TIRNAVOY_TOO_MANY = 6,   /* within: more answers than the shorter answer list holds */
     TIRNAVOY_BAD_BUCKET = 7, /* the search met a bucket that the builder cannot have written */
@@ -76,6 +76,8 @@ uint32_t tirnavoy_check(uint32_t w, uint32_t m, const uint32_t *stars, size_t st
 
 /* ---- searches
  *
+ * A call whose name ends in _masked also takes a mask of w words with a 1 for each bit that counts; a hidden bit, with a 0, adds nothing to a distance. A step opens its buckets for
+ * every value of the hidden bits: where b bits of a substring are hidden, up to 2^b times as many. A mask of all ones gives the plain call's results.
  * Marks are the caller's scratch: they may come in with any contents, and the first TIRNAVOY_MARK_WORDS(n) end as 0. Answers come as entry numbers and distances: smaller
  * distance first, then smaller entry number. *opened becomes the number of buckets opened, *tested that of entries tested. After refusal 7 *table and *bucket say where the bad
  * bucket is. Each of these is 0 where it has no meaning. */
@@ -86,11 +88,24 @@ uint32_t tirnavoy_nearest(uint32_t w, uint32_t m, const uint32_t *stars, size_t 
                           const uint32_t *ids, size_t ids_len, const uint64_t *query, size_t query_len, uint32_t k, uint64_t *marks, size_t marks_len, uint32_t *entries,
                           size_t entries_len, uint32_t *distances, size_t distances_len, uint32_t *answers, uint32_t *opened, uint32_t *tested, uint32_t *table, uint32_t *bucket);
 
+/* The same under a mask. Where no bit counts, all distances are 0, and over tables that tirnavoy_build wrote the call opens every bucket of table 0 and stops, if K
+ * is not 0. Refusals 1, 2, 3, 4, 5, 7. */
+uint32_t tirnavoy_nearest_masked(uint32_t w, uint32_t m, const uint32_t *stars, size_t stars_len, const uint64_t *codes, size_t codes_len, const uint32_t *starts, size_t starts_len,
+                                 const uint32_t *ids, size_t ids_len, const uint64_t *query, size_t query_len, const uint64_t *mask, size_t mask_len, uint32_t k, uint64_t *marks,
+                                 size_t marks_len, uint32_t *entries, size_t entries_len, uint32_t *distances, size_t distances_len, uint32_t *answers, uint32_t *opened,
+                                 uint32_t *tested, uint32_t *table, uint32_t *bucket);
+
 /* All entries at distance r or less. With P the smallest of n and the two answer lists' lengths, the first P places hold the answers, then zeros (after refusal 6 the first P
  * answers, after 7 zeros); later places are unchanged. *answers becomes the number of answers; after refusal 6, how many there would be. Refusals 1, 2, 3, 4, 5, 7, then 6. */
 uint32_t tirnavoy_within(uint32_t w, uint32_t m, const uint32_t *stars, size_t stars_len, const uint64_t *codes, size_t codes_len, const uint32_t *starts, size_t starts_len,
                          const uint32_t *ids, size_t ids_len, const uint64_t *query, size_t query_len, uint32_t r, uint64_t *marks, size_t marks_len, uint32_t *entries,
                          size_t entries_len, uint32_t *distances, size_t distances_len, uint32_t *answers, uint32_t *opened, uint32_t *tested, uint32_t *table, uint32_t *bucket);
+
+/* The same under a mask; r may be up to q, however few bits count. Refusals 1, 2, 3, 4, 5, 7, then 6. */
+uint32_t tirnavoy_within_masked(uint32_t w, uint32_t m, const uint32_t *stars, size_t stars_len, const uint64_t *codes, size_t codes_len, const uint32_t *starts, size_t starts_len,
+                                const uint32_t *ids, size_t ids_len, const uint64_t *query, size_t query_len, const uint64_t *mask, size_t mask_len, uint32_t r, uint64_t *marks,
+                                size_t marks_len, uint32_t *entries, size_t entries_len, uint32_t *distances, size_t distances_len, uint32_t *answers, uint32_t *opened,
+                                uint32_t *tested, uint32_t *table, uint32_t *bucket);
 
 /* Which field is it? Searches the nearest entry and its runner-up, the nearest with another star number; entries of one star are exposures of one field. *verdict becomes
  * TIRNAVOY_NO_FIELD where there is no entry or the first is farther than the reach t; TIRNAVOY_UNSURE where the runner-up is less than the gap g farther than the first, with *star,
@@ -99,6 +114,12 @@ uint32_t tirnavoy_within(uint32_t w, uint32_t m, const uint32_t *stars, size_t s
 uint32_t tirnavoy_verdict(uint32_t w, uint32_t m, const uint32_t *stars, size_t stars_len, const uint64_t *codes, size_t codes_len, const uint32_t *starts, size_t starts_len,
                           const uint32_t *ids, size_t ids_len, const uint64_t *query, size_t query_len, uint32_t t, uint32_t g, uint64_t *marks, size_t marks_len, uint32_t *verdict,
                           uint32_t *star, uint32_t *other, uint32_t *distance, uint32_t *farther, uint32_t *opened, uint32_t *tested, uint32_t *table, uint32_t *bucket);
+
+/* The same under a mask, with t and g for distances under it; both may be up to q. Refusals 1, 2, 3, 4, 5, 7. */
+uint32_t tirnavoy_verdict_masked(uint32_t w, uint32_t m, const uint32_t *stars, size_t stars_len, const uint64_t *codes, size_t codes_len, const uint32_t *starts, size_t starts_len,
+                                 const uint32_t *ids, size_t ids_len, const uint64_t *query, size_t query_len, const uint64_t *mask, size_t mask_len, uint32_t t, uint32_t g,
+                                 uint64_t *marks, size_t marks_len, uint32_t *verdict, uint32_t *star, uint32_t *other, uint32_t *distance, uint32_t *farther, uint32_t *opened,
+                                 uint32_t *tested, uint32_t *table, uint32_t *bucket);
 
 /* The k nearest entries for each of up to 256 queries, codes of w words one after the other. Query j's part is what tirnavoy_nearest finds for it alone: in records[j * k] to
  * records[j * k + k - 1] its answers and then records of zeros, in the outcomes its refusal (0, or 7), its number of answers and its two counts. A query refused 7 has zeros but the
@@ -109,6 +130,9 @@ uint32_t tirnavoy_batch(uint32_t w, uint32_t m, const uint32_t *stars, size_t st
 
 /* The blackboard's number: *buckets becomes how many buckets are open after the step, 0 to q; 0 where refused. Refusals 1, 4. */
 uint32_t tirnavoy_blackboard(uint32_t w, uint32_t m, uint32_t step, uint32_t *buckets);
+
+/* The same for a search under a mask. Refusals 1, 4. */
+uint32_t tirnavoy_blackboard_masked(uint32_t w, uint32_t m, const uint64_t *mask, size_t mask_len, uint32_t step, uint32_t *buckets);
 
 /* ---- from sky to code
  *

@@ -25,6 +25,8 @@ class Catalogue:
         self.w = w
         self.q = 64 * w
         self.m = m
+        # 02, L6: a query may bring a mask of the bits that count; without one all do
+        self.every = (1 << self.q) - 1
         longer = self.q % m
         self.bits = [self.q // m + (1 if z < longer else 0) for z in range(m)]
         self.first = [sum(self.bits[:z]) for z in range(m)]
@@ -34,49 +36,55 @@ class Catalogue:
     def substring(self, code, z):
         return (code >> self.first[z]) % (1 << self.bits[z])
 
-    def walk(self, query, enough, last):
+    def walk(self, query, mask, enough, last):
         """Steps 0, 1, .. up to `last`, until enough(tested, R) holds after step R: buckets opened, entries tested."""
         buckets, tested = 0, set()
         for R in range(last + 1):
             radius, a = divmod(R, self.m)
-            key = self.substring(query, a)
-            buckets += sum(1 for v in range(1 << self.bits[a]) if ONES[v ^ key] == radius)
-            tested |= {i for i, code in enumerate(self.codes) if ONES[self.substring(code, a) ^ key] == radius}
+            key, under = self.substring(query, a), self.substring(mask, a)
+            buckets += sum(1 for v in range(1 << self.bits[a]) if ONES[(v ^ key) & under] == radius)
+            tested |= {i for i, code in enumerate(self.codes) if ONES[(self.substring(code, a) ^ key) & under] == radius}
             if enough(tested, R):
                 break
         return buckets, tested
 
-    def in_order(self, query, entries):
-        return sorted((bits_that_differ(self.codes[i], query), i) for i in entries)
+    def distance(self, i, query, mask):
+        return bits_that_differ(self.codes[i] & mask, query & mask)
 
-    def nearest(self, query, k):
+    def in_order(self, query, mask, entries):
+        return sorted((self.distance(i, query, mask), i) for i in entries)
+
+    def nearest(self, query, k, mask=None):
+        mask = self.every if mask is None else mask
         n = len(self.codes)
         K = min(k, n)
         if K == 0:
             return [], 0, 0
 
         def enough(tested, R):
-            return sum(1 for i in tested if bits_that_differ(self.codes[i], query) <= R) >= K
+            return sum(1 for i in tested if self.distance(i, query, mask) <= R) >= K
 
-        buckets, tested = self.walk(query, enough, self.q)
-        return self.in_order(query, tested)[:K], buckets, len(tested)
+        buckets, tested = self.walk(query, mask, enough, self.q)
+        return self.in_order(query, mask, tested)[:K], buckets, len(tested)
 
-    def within(self, query, r):
+    def within(self, query, r, mask=None):
+        mask = self.every if mask is None else mask
         if not self.codes:
             return [], 0, 0
-        buckets, tested = self.walk(query, lambda tested, R: False, r)
-        return [(d, i) for d, i in self.in_order(query, tested) if d <= r], buckets, len(tested)
+        buckets, tested = self.walk(query, mask, lambda tested, R: False, r)
+        return [(d, i) for d, i in self.in_order(query, mask, tested) if d <= r], buckets, len(tested)
 
-    def rivals(self, query):
+    def rivals(self, query, mask=None):
         """02, L1: the nearest entry and the nearest with another star number than it, where there are such."""
+        mask = self.every if mask is None else mask
         if not self.codes:
             return [], 0, 0
 
         def two_stars(tested, R):
-            return len({self.stars[i] for i in tested if bits_that_differ(self.codes[i], query) <= R}) >= 2
+            return len({self.stars[i] for i in tested if self.distance(i, query, mask) <= R}) >= 2
 
-        buckets, tested = self.walk(query, two_stars, self.q)
-        found = self.in_order(query, tested)
+        buckets, tested = self.walk(query, mask, two_stars, self.q)
+        found = self.in_order(query, mask, tested)
         others = [(d, i) for d, i in found if self.stars[i] != self.stars[found[0][1]]]
         return found[:1] + others[:1], buckets, len(tested)
 

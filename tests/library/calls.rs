@@ -1,6 +1,6 @@
 //! One call to the library and the same call to `reference.rs`: every result, count and list compared, with guard values around every list.
 use crate::library;
-use crate::reference::{self, Index, Lists, Report, Results};
+use crate::reference::{self, Index, Lists, Query, Report, Results};
 use std::fmt::Debug;
 
 /// Everything that a call may be handed.
@@ -13,6 +13,7 @@ pub struct Call {
     pub starts: Vec<u32>,
     pub ids: Vec<u32>,
     pub query: Vec<u64>,
+    pub mask: Vec<u64>,
     pub number: u32,
     pub gap: u32,
     pub lists: Lists,
@@ -21,6 +22,14 @@ pub struct Call {
 impl Call {
     pub fn index(&self) -> Index<'_> {
         Index { w: self.w, m: self.m, stars: &self.stars, codes: &self.codes, starts: &self.starts, ids: &self.ids }
+    }
+    /// What is asked: the query with the call's mask, or without one.
+    fn asked(&self, masked: bool) -> Query<'_> {
+        if masked {
+            Query { code: &self.query, mask: &self.mask }
+        } else {
+            Query::plain(&self.query)
+        }
     }
 }
 
@@ -59,13 +68,14 @@ impl<T: Copy + PartialEq + Debug> Guarded<T> {
     }
 }
 
-/// The lists of a catalogue, its tables and a query.
+/// The lists of a catalogue, its tables, a query and a mask.
 struct Lent {
     stars: Guarded<u32>,
     codes: Guarded<u64>,
     starts: Guarded<u32>,
     ids: Guarded<u32>,
     query: Guarded<u64>,
+    mask: Guarded<u64>,
 }
 
 impl Lent {
@@ -76,6 +86,7 @@ impl Lent {
             starts: Guarded::new(&c.starts, GUARD),
             ids: Guarded::new(&c.ids, GUARD),
             query: Guarded::new(&c.query, GUARD_WORD),
+            mask: Guarded::new(&c.mask, GUARD_WORD),
         }
     }
     fn catalogue_unchanged(&self, c: &Call) -> Result<(), String> {
@@ -86,7 +97,8 @@ impl Lent {
         self.catalogue_unchanged(c)?;
         self.starts.holds("starts", &c.starts)?;
         self.ids.holds("ids", &c.ids)?;
-        self.query.holds("query", &c.query)
+        self.query.holds("query", &c.query)?;
+        self.mask.holds("mask", &c.mask)
     }
 }
 
@@ -127,50 +139,93 @@ fn outs(report: Report) -> [u32; 5] {
     [answers, opened, tested, refusal.first, refusal.second]
 }
 
-pub fn run_search(c: &Call, radius: bool) -> Result<u32, String> {
-    let name = if radius { "within" } else { "nearest" };
-    let search = if radius { reference::within } else { reference::nearest };
+/// The lists that a search writes and its outs.
+struct Written {
+    marks: Guarded<u64>,
+    entries: Guarded<u32>,
+    distances: Guarded<u32>,
+    outs: [u32; 5],
+}
+
+impl Written {
+    fn new(lists: &Lists) -> Self {
+        Written { marks: Guarded::new(&lists.marks, GUARD_WORD), entries: Guarded::new(&lists.entries, GUARD), distances: Guarded::new(&lists.distances, GUARD), outs: [71; 5] }
+    }
+    fn holds(&self, name: &str, lists: &Lists) -> Result<(), String> {
+        self.marks.holds(&format!("{name}: marks"), &lists.marks)?;
+        self.entries.holds(&format!("{name}: entries"), &lists.entries)?;
+        self.distances.holds(&format!("{name}: distances"), &lists.distances)
+    }
+}
+
+/// Asks the library, for the entries within a radius or for the nearest, with the call's mask or without one.
+fn search(c: &Call, radius: bool, masked: bool, l: &mut Lent, to: &mut Written) -> u32 {
+    let (marks, entries, distances) = (&c.lists.marks, &c.lists.entries, &c.lists.distances);
+    let [answers, opened, tested, table, bucket] = &mut to.outs;
+    let under = if radius { library::tirnavoy_within_masked } else { library::tirnavoy_nearest_masked };
+    let plain = if radius { library::tirnavoy_within } else { library::tirnavoy_nearest };
+    unsafe {
+        if masked {
+            under(
+                c.w, c.m, l.stars.at(), c.stars.len(), l.codes.at(), c.codes.len(), l.starts.at(), c.starts.len(), l.ids.at(), c.ids.len(), l.query.at(), c.query.len(),
+                l.mask.at(), c.mask.len(), c.number, to.marks.at(), marks.len(), to.entries.at(), entries.len(), to.distances.at(), distances.len(), answers, opened, tested, table, bucket,
+            )
+        } else {
+            plain(
+                c.w, c.m, l.stars.at(), c.stars.len(), l.codes.at(), c.codes.len(), l.starts.at(), c.starts.len(), l.ids.at(), c.ids.len(), l.query.at(), c.query.len(),
+                c.number, to.marks.at(), marks.len(), to.entries.at(), entries.len(), to.distances.at(), distances.len(), answers, opened, tested, table, bucket,
+            )
+        }
+    }
+}
+
+/// A search for the nearest or within a radius, with the call's mask or without one. Under a mask of all ones the plain search has to give the same.
+pub fn run_search(c: &Call, radius: bool, masked: bool) -> Result<u32, String> {
+    let name = format!("{}{}", if radius { "within" } else { "nearest" }, if masked { " masked" } else { "" });
+    let theirs_by = if radius { reference::within } else { reference::nearest };
     let mut lists = c.lists.clone();
-    let theirs = search(&c.index(), &c.query, c.number, &mut lists);
-    let mut l = Lent::new(c);
-    let mut marks = Guarded::new(&c.lists.marks, GUARD_WORD);
-    let (mut entries, mut distances) = (Guarded::new(&c.lists.entries, GUARD), Guarded::new(&c.lists.distances, GUARD));
-    let mut got = [71u32; 5];
-    let [answers, opened, tested, table, bucket] = &mut got;
-    let call = if radius { library::tirnavoy_within } else { library::tirnavoy_nearest };
-    let number = unsafe {
-        call(
-            c.w, c.m, l.stars.at(), c.stars.len(), l.codes.at(), c.codes.len(), l.starts.at(), c.starts.len(), l.ids.at(), c.ids.len(),
-            l.query.at(), c.query.len(), c.number, marks.at(), c.lists.marks.len(), entries.at(), c.lists.entries.len(), distances.at(), c.lists.distances.len(),
-            answers, opened, tested, table, bucket,
-        )
-    };
-    compare(&format!("{name}: number and outs"), (number, got), (theirs.refusal.number, outs(theirs)))?;
-    marks.holds(&format!("{name}: marks"), &lists.marks)?;
-    entries.holds(&format!("{name}: entries"), &lists.entries)?;
-    distances.holds(&format!("{name}: distances"), &lists.distances)?;
+    let theirs = theirs_by(&c.index(), c.asked(masked), c.number, &mut lists);
+    let (mut l, mut written) = (Lent::new(c), Written::new(&c.lists));
+    let number = search(c, radius, masked, &mut l, &mut written);
+    compare(&format!("{name}: number and outs"), (number, written.outs), (theirs.refusal.number, outs(theirs)))?;
+    written.holds(&name, &lists)?;
     l.unchanged(c)?;
+    if masked && c.asked(true).counts_all() {
+        return run_search(c, radius, false);
+    }
     Ok(number)
 }
 
-pub fn run_verdict(c: &Call) -> Result<u32, String> {
+/// A verdict, likewise.
+pub fn run_verdict(c: &Call, masked: bool) -> Result<u32, String> {
+    let name = if masked { "verdict masked" } else { "verdict" };
     let mut marks_then = c.lists.marks.clone();
-    let theirs = reference::verdict(&c.index(), &c.query, c.number, c.gap, &mut marks_then);
+    let theirs = reference::verdict(&c.index(), c.asked(masked), c.number, c.gap, &mut marks_then);
     let mut l = Lent::new(c);
     let mut marks = Guarded::new(&c.lists.marks, GUARD_WORD);
     let mut got = [71u32; 9];
     let [verdict, star, other, distance, farther, opened, tested, table, bucket] = &mut got;
     let number = unsafe {
-        library::tirnavoy_verdict(
-            c.w, c.m, l.stars.at(), c.stars.len(), l.codes.at(), c.codes.len(), l.starts.at(), c.starts.len(), l.ids.at(), c.ids.len(),
-            l.query.at(), c.query.len(), c.number, c.gap, marks.at(), c.lists.marks.len(), verdict, star, other, distance, farther, opened, tested, table, bucket,
-        )
+        if masked {
+            library::tirnavoy_verdict_masked(
+                c.w, c.m, l.stars.at(), c.stars.len(), l.codes.at(), c.codes.len(), l.starts.at(), c.starts.len(), l.ids.at(), c.ids.len(), l.query.at(), c.query.len(),
+                l.mask.at(), c.mask.len(), c.number, c.gap, marks.at(), c.lists.marks.len(), verdict, star, other, distance, farther, opened, tested, table, bucket,
+            )
+        } else {
+            library::tirnavoy_verdict(
+                c.w, c.m, l.stars.at(), c.stars.len(), l.codes.at(), c.codes.len(), l.starts.at(), c.starts.len(), l.ids.at(), c.ids.len(), l.query.at(), c.query.len(),
+                c.number, c.gap, marks.at(), c.lists.marks.len(), verdict, star, other, distance, farther, opened, tested, table, bucket,
+            )
+        }
     };
     let ([star, other], [distance, farther], [_, opened, tested, table, bucket]) = (theirs.stars, theirs.distances, outs(theirs.report));
     let expected = [theirs.verdict, star, other, distance, farther, opened, tested, table, bucket];
-    compare("verdict: number and outs", (number, got), (theirs.report.refusal.number, expected))?;
-    marks.holds("verdict: marks", &marks_then)?;
+    compare(&format!("{name}: number and outs"), (number, got), (theirs.report.refusal.number, expected))?;
+    marks.holds(&format!("{name}: marks"), &marks_then)?;
     l.unchanged(c)?;
+    if masked && c.asked(true).counts_all() {
+        return run_verdict(c, false);
+    }
     Ok(number)
 }
 
@@ -199,7 +254,16 @@ pub fn run_batch(c: &Call, queries: &[u64], results: &Results) -> Result<u32, St
 pub fn run_blackboard(w: u32, m: u32, step: u32) -> Result<u32, String> {
     let mut buckets = 77;
     let number = unsafe { library::tirnavoy_blackboard(w, m, step, &mut buckets) };
-    compare(&format!("blackboard w {w} m {m} step {step}"), (number, buckets), reference::blackboard(w, m, step))?;
+    let ones = [u64::MAX; 4];
+    compare(&format!("blackboard w {w} m {m} step {step}"), (number, buckets), reference::blackboard(w, m, &ones[..w.min(4) as usize], step))?;
+    Ok(number)
+}
+
+pub fn run_blackboard_masked(w: u32, m: u32, mask: &[u64], step: u32) -> Result<u32, String> {
+    let (mut lent, mut buckets) = (Guarded::new(mask, GUARD_WORD), 77);
+    let number = unsafe { library::tirnavoy_blackboard_masked(w, m, lent.at(), mask.len(), step, &mut buckets) };
+    compare(&format!("blackboard w {w} m {m} mask {mask:x?} step {step}"), (number, buckets), reference::blackboard(w, m, mask, step))?;
+    lent.holds("blackboard: mask", mask)?;
     Ok(number)
 }
 

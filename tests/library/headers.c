@@ -86,8 +86,10 @@ static void lists(void) {
 }
 
 static void library(void) {
+    const uint64_t nothing = 0;
     uint32_t buckets = 0;
     expect(__LINE__, tirnavoy_blackboard(1, 8, 62, &buckets) == TIRNAVOY_NONE && buckets == 2032);
+    expect(__LINE__, tirnavoy_blackboard_masked(1, 8, &nothing, 1, 0, &buckets) == TIRNAVOY_NONE && buckets == 256);
 }
 
 int main(void) {

@@ -1,6 +1,6 @@
 //! Calls to compare: drawn over all shapes with every refusal in reach; of any numbers and lengths at all; at the border of the scope; or by a fuzzer's bytes.
 #![allow(dead_code)]
-use crate::calls::{run_batch, run_blackboard, run_build, run_check, run_search, run_sky, run_verdict, Call};
+use crate::calls::{run_batch, run_blackboard, run_blackboard_masked, run_build, run_check, run_search, run_sky, run_verdict, Call};
 use crate::random::Random;
 use crate::reference::{self, Lists, Results};
 
@@ -81,6 +81,27 @@ fn random_query(codes: &[u64], centre: &[u64], rng: &mut Random) -> Vec<u64> {
     query
 }
 
+/// Ones or zeros alone, one bit or a few, all but a few, the corners of the grid hidden, words hidden whole, or any bits; now and then of no word, or a word too short or too long.
+fn random_mask(width: usize, rng: &mut Random) -> Vec<u64> {
+    let (ones, zeros) = (vec![u64::MAX; width], vec![0; width]);
+    let mut mask = match rng.below(9) {
+        0 => ones,
+        1 => zeros,
+        2 => flipped(&zeros, rng.pick(&[1, 2, 6, 30]), rng),
+        3 | 4 => flipped(&ones, rng.pick(&[1, 2, 6, 30]), rng),
+        5 => vec![0x7eff_ffff_ffff_ff7e; width],
+        6 => ones.into_iter().map(|word| if rng.one_in(2) { word } else { 0 }).collect(),
+        _ => words(width, rng),
+    };
+    match rng.below(60) {
+        0 => mask.clear(),
+        1 => drop(mask.pop()),
+        2 => mask.push(u64::MAX),
+        _ => (),
+    }
+    mask
+}
+
 /// Damage of every kind: a start or an id one off, out of range, repeated, exchanged, or any number at all.
 fn damage(list: &mut [u32], n: u32, rng: &mut Random) {
     if list.is_empty() {
@@ -138,23 +159,45 @@ fn random_call(w: u32, m: u32, rng: &mut Random) -> Call {
     let starts = vec![STALE; about(reference::all_starts(w, m), rng)];
     let ids = vec![STALE; about(tables * n, rng)];
     let query = random_query(&codes, &centre, rng);
+    let mask = random_mask(width, rng);
     let q = 64 * width as u32;
     let number = if rng.one_in(2) { random_count(n, rng) } else { random_limit(q, rng) };
     let gap = random_limit(q, rng);
     let lists = random_lists(n, number, rng);
-    Call { w, m, stars, codes, starts, ids, query, number, gap, lists }
+    Call { w, m, stars, codes, starts, ids, query, mask, number, gap, lists }
 }
 
-/// The tables of a call as the builder writes them; in one call of three with some damage.
+/// Some bad buckets that one step under the call's mask opens: the search has to name the first in its order.
+fn damage_step(call: &mut Call, rng: &mut Random) {
+    let tables = reference::tables(call.w, call.m);
+    let table = &tables[rng.below(tables.len() as u64) as usize];
+    let by_ones = table.by_ones(&call.mask);
+    let changes = &by_ones[rng.pick(&[0, 1, 1, 2]).min(by_ones.len() - 1)];
+    if changes.is_empty() {
+        return;
+    }
+    for _ in 0..rng.pick(&[2, 3, 5]) {
+        let bucket = table.key(&call.query) ^ rng.pick(changes);
+        call.starts[table.part + bucket + 1] += 1;
+    }
+}
+
+/// The tables of a call as the builder writes them; in one call of three with damage, anywhere or in the buckets of one step.
 fn with_tables(mut call: Call, rng: &mut Random) -> Call {
-    let (_, starts, ids) = reference::build(&call.index());
+    let (refused, starts, ids) = reference::build(&call.index());
     (call.starts, call.ids) = (starts, ids);
-    if rng.one_in(3) {
-        let n = call.stars.len() as u32;
-        for _ in 0..rng.pick(&[1, 1, 2, 5, 40]) {
-            let list = if rng.one_in(2) { &mut call.starts } else { &mut call.ids };
-            damage(list, n, rng);
-        }
+    if !rng.one_in(3) {
+        return call;
+    }
+    let width = call.w as usize;
+    if refused == 0 && call.query.len() == width && call.mask.len() == width && rng.one_in(3) {
+        damage_step(&mut call, rng);
+        return call;
+    }
+    let n = call.stars.len() as u32;
+    for _ in 0..rng.pick(&[1, 1, 2, 5, 40]) {
+        let list = if rng.one_in(2) { &mut call.starts } else { &mut call.ids };
+        damage(list, n, rng);
     }
     call
 }
@@ -180,10 +223,13 @@ fn any_sky(rng: &mut Random) -> Result<u32, String> {
     run_sky(rng.one_in(2), &across, &up)
 }
 
+/// The count with a mask and without one.
 fn any_blackboard(rng: &mut Random) -> Result<u32, String> {
     let (w, m) = random_shape(rng);
     let step = rng.below(64 * w as u64 + 3) as u32;
-    run_blackboard(w, m, if rng.one_in(20) { rng.next() as u32 } else { step })
+    let step = if rng.one_in(20) { rng.next() as u32 } else { step };
+    run_blackboard(w, m, step)?;
+    run_blackboard_masked(w, m, &random_mask(w.min(4) as usize, rng), step)
 }
 
 /// How many queries a batch has: a table of students, none, or on both sides of 256 where that is quick.
@@ -220,31 +266,36 @@ fn any_batch(w: u32, m: u32, rng: &mut Random) -> Result<u32, String> {
     run_batch(&call, &queries, &results).map_err(|error| format!("{error}\n{call:?}\n{queries:?}\n{results:?}"))
 }
 
+/// How many kinds of calls `run_call` makes: the builder, the check, and each search several times, every second time with a mask.
+const KINDS: u64 = 14;
+
 fn run_call(which: u64, call: &Call) -> Result<u32, String> {
-    let outcome = match which % 8 {
+    let masked = which % 2 == 1;
+    let outcome = match which % KINDS {
         0 => run_build(call),
         1 => run_check(call),
-        2 | 3 => run_search(call, false),
-        4 | 5 => run_search(call, true),
-        _ => run_verdict(call),
+        2..=5 => run_search(call, false, masked),
+        6..=9 => run_search(call, true, masked),
+        _ => run_verdict(call, masked),
     };
     outcome.map_err(|error| format!("{error}\n{call:?}"))
 }
 
 /// A random call of any exported function; gives the number that it ended with.
 pub fn any_call(rng: &mut Random) -> Result<u32, String> {
-    match rng.below(12) {
-        0 => any_sky(rng),
-        1 => any_blackboard(rng),
-        which => {
-            let (w, m) = random_shape(rng);
-            if which < 4 {
-                return any_batch(w, m, rng);
-            }
-            let call = random_call(w, m, rng);
-            run_call(which, &with_tables(call, rng))
-        }
+    let which = rng.below(KINDS + 4);
+    if which == KINDS {
+        return any_sky(rng);
     }
+    if which == KINDS + 1 {
+        return any_blackboard(rng);
+    }
+    let (w, m) = random_shape(rng);
+    if which > KINDS {
+        return any_batch(w, m, rng);
+    }
+    let call = random_call(w, m, rng);
+    run_call(which, &with_tables(call, rng))
 }
 
 /// Every listed w and m, and the m on both sides of them, through every function that takes a shape.
@@ -254,12 +305,28 @@ pub fn shapes(rng: &mut Random, refusals: &mut Refusals) -> Result<(), String> {
         for m in 4 * w - 1..=16 * w + 1 {
             for step in [0, 1, m - 1, m, m + 1, 64 * w - 1, 64 * w, 64 * w + 1] {
                 met(run_blackboard(w, m, step)?);
+                met(run_blackboard_masked(w, m, &random_mask(w as usize, rng), step)?);
             }
-            for which in 0..8 {
+            for which in 0..KINDS {
                 let call = random_call(w, m, rng);
                 met(run_call(which, &with_tables(call, rng))?);
             }
             met(any_batch(w, m, rng)?);
+        }
+    }
+    Ok(())
+}
+
+/// Searches under masks of a large catalogue, with some hidden bits, with few bits that count, and with all and none of them.
+fn large_masked(call: &mut Call, rng: &mut Random, met: &mut impl FnMut(u32)) -> Result<(), String> {
+    let (ones, zeros) = (vec![u64::MAX; call.w as usize], vec![0; call.w as usize]);
+    for mask in [flipped(&ones, 12, rng), flipped(&zeros, 9, rng), ones, zeros] {
+        call.mask = mask;
+        for number in [1, 10] {
+            call.number = number;
+            met(run_search(call, false, true)?);
+            met(run_search(call, true, true)?);
+            met(run_verdict(call, true)?);
         }
     }
     Ok(())
@@ -273,7 +340,7 @@ pub fn large(rng: &mut Random, refusals: &mut Refusals) -> Result<(), String> {
         let (places, tables) = (reference::all_starts(w, m), m as usize);
         let query = flipped(&codes[40 * width..41 * width], 5, rng);
         let lists = |places: usize, rng: &mut Random| Lists { marks: words(1026, rng), entries: vec![1; places + 1], distances: vec![2; places] };
-        let mut call = Call { w, m, stars: (0..n as u32).collect(), codes, starts: vec![9; places + 3], ids: vec![9; tables * n + 3], query, number: 1, gap: 8, lists: lists(10, rng) };
+        let mut call = Call { w, m, stars: (0..n as u32).collect(), codes, starts: vec![9; places + 3], ids: vec![9; tables * n + 3], query, mask: vec![u64::MAX; width], number: 1, gap: 8, lists: lists(10, rng) };
         let mut met = |number: u32| refusals[number as usize] += 1;
         met(run_build(&call)?);
         let (_, starts, ids) = reference::build(&call.index());
@@ -282,12 +349,14 @@ pub fn large(rng: &mut Random, refusals: &mut Refusals) -> Result<(), String> {
         for (k, places) in [(1, 10), (10, 10), (10, 9), (65536, 65536)] {
             call.number = k;
             call.lists = lists(places, rng);
-            met(run_search(&call, false)?);
+            met(run_search(&call, false, false)?);
         }
         for r in [0, 5, 20] {
             call.number = r;
-            met(run_search(&call, true)?);
+            met(run_search(&call, true, false)?);
         }
+        call.lists = lists(10, rng);
+        large_masked(&mut call, rng, &mut met)?;
         for (count, k, places) in [(256, 1, 256), (257, 1, 257), (2, 1024, 2048), (2, 1025, 2050), (1, 65536, 65536), (1, 65537, 65537), (1, u32::MAX, 10)] {
             call.number = k;
             let queries: Vec<u64> = (0..count).flat_map(|_| flipped(&call.query, 2, rng)).collect();
@@ -295,9 +364,9 @@ pub fn large(rng: &mut Random, refusals: &mut Refusals) -> Result<(), String> {
             met(run_batch(&call, &queries, &results)?);
         }
         call.number = 20;
-        met(run_verdict(&call)?);
+        met(run_verdict(&call, false)?);
         call.stars.fill(7);
-        met(run_verdict(&call)?);
+        met(run_verdict(&call, false)?);
         call.ids[tables * n - 1] ^= 1;
         met(run_check(&call)?);
     }
@@ -323,7 +392,8 @@ fn some_words(below: u64, rng: &mut Random) -> Vec<u64> {
 fn wild(rng: &mut Random) -> Result<u32, String> {
     if rng.one_in(10) {
         let (w, m, step) = (any_number(rng), any_number(rng), any_number(rng));
-        return run_blackboard(w, m, step);
+        run_blackboard(w, m, step)?;
+        return run_blackboard_masked(w, m, &some_words(6, rng), step);
     }
     if rng.one_in(10) {
         let offsets = |rng: &mut Random| some_words(9, rng).into_iter().map(f64::from_bits).collect::<Vec<f64>>();
@@ -335,14 +405,15 @@ fn wild(rng: &mut Random) -> Result<u32, String> {
     let width = w as usize % 5;
     let codes = if rng.one_in(4) { some_words(300, rng) } else { words(stars.len() * width, rng) };
     let query = if rng.one_in(4) { some_words(6, rng) } else { words(width, rng) };
+    let mask = if rng.one_in(4) { some_words(6, rng) } else { random_mask(width, rng) };
     let lists = Lists { marks: some_words(6, rng), entries: numbers(80, rng), distances: numbers(80, rng) };
-    let (number, gap, which) = (any_number(rng), any_number(rng), rng.below(10));
+    let (number, gap, which) = (any_number(rng), any_number(rng), rng.below(KINDS + 3));
     let small = |len: u64, rng: &mut Random| (0..len).map(|_| if rng.one_in(50) { rng.next() as u32 } else { rng.below(8) as u32 }).collect::<Vec<u32>>();
     let needed = if rng.one_in(4) { 0 } else { reference::all_starts(w, m) as u64 };
     let (starts_len, ids_len) = (needed + rng.below(900), rng.below(4600));
     let (starts, ids) = (small(starts_len, rng), small(ids_len, rng));
-    let call = Call { w, m, stars, codes, starts, ids, query, number, gap, lists };
-    if which < 8 {
+    let call = Call { w, m, stars, codes, starts, ids, query, mask, number, gap, lists };
+    if which < KINDS {
         return run_call(which, &call);
     }
     let queries = if rng.one_in(2) { some_words(600, rng) } else { words(width * 3, rng) };

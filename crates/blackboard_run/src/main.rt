@@ -1,7 +1,7 @@
-// Prints the blackboard's count: steps of catalogue A, the last step of each shape, and refused calls.
+// Prints the blackboard's count: steps of catalogue A, the last step of each shape, and refused calls; then the same under masks.
 #![tactic(auto)]
 
-use scope::Shape;
+use scope::{Opened, Refusal, Shape};
 use std::io;
 
 fn main(rt: HostRuntime) -> io::Result<()> {
@@ -35,13 +35,38 @@ fn main(rt: HostRuntime) -> io::Result<()> {
     ] {
         ask(&rt, w, m, step)?;
     }
-    Ok(())
+    for step in [0, 1, 5, 7, 59, 64, 65] {
+        ask_masked(&rt, 1, 8, &[CORNERS_HIDDEN], step)?;
+    }
+    ask_masked(&rt, 1, 8, &[0], 0)?;
+    ask_masked(&rt, 1, 8, &[0], 64)?;
+    ask_masked(&rt, 1, 8, &[u64::MAX], 62)?;
+    ask_masked(&rt, 2, 11, &[0, u64::MAX], 18)?;
+    ask_masked(&rt, 1, 8, &[], 0)?;
+    ask_masked(&rt, 1, 8, &[0, 0], 65)?;
+    ask_masked(&rt, 1, 17, &[], 65)
 }
+
+// All cells of the grid but its corners.
+const CORNERS_HIDDEN: u64 = 0x7eff_ffff_ffff_ff7e;
 
 // A line for one call: what it is asked, and what it answers.
 fn ask(rt: &impl Print, w: u32, m: u32, step: u32) -> io::Result<()> {
     print!(rt; "w {w} m {m} step {step}: ")?;
-    match blackboard::count(Shape { w, m }, step) {
+    tell(rt, blackboard::count(Shape { w, m }, step))
+}
+
+fn ask_masked(rt: &impl Print, w: u32, m: u32, mask: &[u64], step: u32) -> io::Result<()> {
+    print!(rt; "w {w} m {m} mask")?;
+    for word in mask {
+        print!(rt; " {word:x}")?;
+    }
+    print!(rt; " step {step}: ")?;
+    tell(rt, blackboard::count_masked(Shape { w, m }, mask, step))
+}
+
+fn tell(rt: &impl Print, count: Result<Opened, Refusal>) -> io::Result<()> {
+    match count {
         Ok(opened) => println!(rt; "{}", opened.0),
         Err(refusal) => println!(rt; "refused {}", refusal.number()),
     }

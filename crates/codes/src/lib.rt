@@ -16,14 +16,15 @@ pub struct Codes<'a> {
     pub ghost few_words: { w ≤ 4 },
 }
 
-// How many bits of a code and the query differ. The query may have more words.
-fn differing(code: &[u64], query: &[u64]) -> u32
-    requires { (length code.now ≤ 4) × (length code.now ≤ length query.now) }
-    ensures { result ≡ spec.distance (64 * length code.now) code.now query.now }
+// How many bits of a code and the query differ, of those under the mask. Query and mask may have more words.
+fn differing(code: &[u64], query: &[u64], mask: &[u64]) -> u32
+    requires few { length code.now ≤ 4 }
+    requires long { (length code.now ≤ length query.now) × (length code.now ≤ length mask.now) }
+    ensures { result ≡ spec.distance_under mask.now (64 * length code.now) code.now query.now }
 {
     let mut r = 0;
-    for (a, b) in code.iter().zip(&query[..code.len()]) {
-        r += (*a ^ *b).count_ones();
+    for (k, word) in code.iter().enumerate() {
+        r += ((*word ^ query[k]) & mask[k]).count_ones();
     }
     r
 }
@@ -56,20 +57,21 @@ impl<'a> Codes<'a> {
         &words[at..at + self.w]
     }
 
-    // How many bits of entry i's code and the query differ, if that is at most the limit. Where the limit is low, a first look goes over just as many words as exceed it at 24 bits
-    // each: words of unrelated codes differ in about 32 bits, hardly ever in fewer than 24.
-    pub fn distance(self, i: usize, query: &[u64], limit: u32) -> Option<u32>
-        requires { (i * self.w + self.w ≤ length self.words.now) × (self.w ≤ length query.now) }
-        ensures { result ≡ limited limit (distance_from self.entry.w self.entry.words.now query.now i) }
+    // How many bits of entry i's code and the query differ, of those under the mask, if that is at most the limit. Where the limit is low, a first look goes over just as many words
+    // as exceed it at 24 bits each: words of unrelated codes differ in about 32 bits, hardly ever in fewer than 24.
+    pub fn distance(self, i: usize, query: &[u64], mask: &[u64], limit: u32) -> Option<u32>
+        requires inside { i * self.w + self.w ≤ length self.words.now }
+        requires long { (self.w ≤ length query.now) × (self.w ≤ length mask.now) }
+        ensures { result ≡ limited limit (distance_from self.entry.w self.entry.words.now query.now mask.now i) }
     {
         let code = self.code(i);
         if limit as usize + 24 < 24 * self.w {
             let few = limit as usize / 24 + 1;
-            if limit < differing(&code[..few], query) {
+            if limit < differing(&code[..few], query, mask) {
                 return None;
             }
         }
-        let d = differing(code, query);
+        let d = differing(code, query, mask);
         if limit < d {
             return None;
         }

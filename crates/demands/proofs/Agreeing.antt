@@ -46,7 +46,7 @@ pub quiet_handed : (ask : Question) (limits marks : List ℕ) (more : Rows) → 
 unfolding lent
 quiet_handed ask limits marks more h =
     all_append (λ (row : Bool × Refusal). Quiet row.1) (handed ask limits marks) more
-    (λ _ _ _ _. refl, (λ _ _ _ _. refl, (λ _ _ _ _. refl, (λ _ _ _ _. refl, (λ _ _ _ _. refl, (λ _ _ _ _. refl, (λ _ _ _ _. refl, (λ _ _ _ _. refl, tt)))))))) h
+    (λ _ _ _ _. refl, (λ _ _ _ _. refl, (λ _ _ _ _. refl, (λ _ _ _ _. refl, (λ _ _ _ _. refl, (λ _ _ _ _. refl, (λ _ _ _ _. refl, (λ _ _ _ _. refl, (λ _ _ _ _. refl, tt))))))))) h
 
 -- ---- rows a before the walk, and b after it
 

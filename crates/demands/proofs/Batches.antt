@@ -18,11 +18,12 @@ use Rattle.scope.specs.declared.Answer.{Answer}
 use Rattle.scope.specs.Codes.{code_of}
 use Rattle.scope.specs.Shape.{m, starts_before}
 use Rattle.scope.specs.Tables.{n}
-use Rattle.scope.specs.Walk.{Question, distance_of}
+use Rattle.scope.specs.Walk.{Question, all_ones, distance_of}
 use Rattle.scope.specs.Search.{K}
 use Rattle.scope.specs.Refusals.{Rows, refusal, unless, mark_words}
 use Rattle.scope.specs.Calls.{asked, SearchEnd, nearest_end}
 use Rattle.scope.specs.Batch.{Handed, queries_in, batch_rows, batch_number, query_of, single_of, single, outcome_of, answers_of, zero_record, record_from, record_of, batch_outcomes, batch_records, BatchEnd, batch_end}
+use Rattle.scope.proofs.Masks.{all_ones-long}
 use Rattle.scope.proofs.Rows.{one_fits}
 use Rattle.scope.proofs.Single.{call_is, record-over}
 use Rattle.scope.proofs.Batch.{Clear, clear, clear_zero, end_clear, end_refused, query_long, four_long}
@@ -90,6 +91,7 @@ module _ (c : Handed) (such : BatchCall c) (i : ℕ) (b : i < queries_in c) wher
           le-ltb (length x.starts) (starts_before x.shape (m x.shape)) f.starts,
           le-ltb (length x.ids) (m x.shape * n x) f.ids,
           eq-eqb (length (query_of c i)) x.shape.w (query_long c i b),
+          eq-eqb (length (all_ones x.shape.w)) x.shape.w (all_ones-long x.shape.w),
           le-ltb (length marks) (mark_words (n x)) hm,
           le-ltb (min (length entries) (length distances)) (K x c.k) (omega arith),
         );

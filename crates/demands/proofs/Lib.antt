@@ -1,5 +1,5 @@
 -- The lab's demands, a file for each: what is listed (Within, Nearest), what is opened and counted (Count, Tested, Edges), what the answers depend on (Locality),
--- what a verdict says (Verdict), who is not among the answers (Limits); Proposition 2 of 003, and what follows (Corollaries). The other files are the way there.
+-- what a verdict says (Verdict), who is not among the answers (Limits), what a mask of all ones and one of zeros ask (Masks); Proposition 2 of 003, and what follows (Corollaries). The other files are the way there.
 pub mod Sound
 pub mod Trusting
 pub mod Listing
@@ -17,3 +17,4 @@ pub mod Verdict
 pub mod Batches
 pub mod Limits
 pub mod Corollaries
+pub mod Masks

@@ -22,7 +22,7 @@ use Rattle.scope.specs.Tables.{n}
 use Rattle.scope.specs.Walk.{Question, distance_of, star_of, tested}
 use Rattle.scope.specs.Search.{K, nearest_steps, answers, nearest, within_steps, within}
 use Rattle.scope.specs.Verdict.{verdict_steps, nearest_rivals}
-use Rattle.scope.proofs.Codes.{distance-le}
+use Rattle.scope.proofs.Codes.{under-le}
 use Rattle.scope.proofs.Stars.{Runner, Told, told}
 use Rattle.demands.proofs.Verdict.{no_nearer}
 
@@ -46,7 +46,7 @@ module _ (ask : Question) (limit i : ℕ) (over : limit < distance_of ask i) whe
       let D = distance_of ask in
       let test = tested ask (nearest_steps ask k) in
       let near = answers ask test limit in
-      let inside = distance-le (q x.shape) (code_of x.shape.w x.codes i) ask.query in
+      let inside = under-le ask.mask (code_of x.shape.w x.codes i) ask.query (q x.shape) in
       let many : count (λ j. leb (D j) limit && seen j) (n x) ≤ count (λ j. ltb (D j) (limit + 1) && test j) (n x) =
       count_imp (λ j. leb (D j) limit && seen j) (λ j. ltb (D j) (limit + 1) && test j) (n x)
       (λ j h.

@@ -20,7 +20,7 @@ use Rattle.scope.specs.Tables.{n}
 use Rattle.scope.specs.Walk.{Question, distance_of}
 use Rattle.scope.specs.Refusals.{lent}
 use Rattle.scope.specs.Calls.{Asked, search_end}
-use Rattle.scope.proofs.Codes.{distance-le}
+use Rattle.scope.proofs.Codes.{under-le}
 use Rattle.demands.specs.Neighbours.{neighbours, every_entry}
 use Rattle.demands.specs.Answers.{Exactly, Lists}
 
@@ -59,7 +59,7 @@ every_exactly ask =
     let scan = neighbours_exactly ask (q sh) in
     record {
       ordered = scan.ordered;
-      once = λ i. scan.once i ∙ rw (le-leb (distance_of ask i) (q sh) (distance-le (q sh) (code_of sh.w ask.index.codes i) ask.query));
+      once = λ i. scan.once i ∙ rw (le-leb (distance_of ask i) (q sh) (under-le ask.mask (code_of sh.w ask.index.codes i) ask.query (q sh)));
     }
 
 -- and there is one such list

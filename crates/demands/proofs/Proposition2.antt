@@ -10,8 +10,8 @@ use Rattle.theory.proofs.Tests.{lt-or-le}
 use Rattle.theory.proofs.Pigeon.{pigeon_step}
 use Rattle.scope.specs.declared.Shape.{Shape}
 use Rattle.scope.specs.Shape.{q, listed, m, first_bit, len}
-use Rattle.scope.proofs.Codes.{distance_cuts, distance-tables}
-use Rattle.demands.specs.Neighbours.{Neighbour, apart_in, OneClose}
+use Rattle.scope.proofs.Codes.{distance_cuts, distance-tables, under_cuts, under-tables}
+use Rattle.demands.specs.Neighbours.{Neighbour, NeighbourUnder, apart_in, apart_under, OneClose}
 use Rattle.theory.proofs.Radii.{radius_first, radius_rest}
 
 by_radii : (apart : ℕ → ℕ) (m r' a : ℕ) → a < m → sum apart m ≤ m * r' + a → OneClose apart m r' a
@@ -34,3 +34,14 @@ pub proposition_2_tables : (sh : Shape) → listed sh ≡ true → (r' a : ℕ) 
     → OneClose (λ z. apart_in (first_bit sh z) (len sh z) h g) (m sh) r' a
 proposition_2_tables sh ls r' a h g l near =
     by_radii (λ z. apart_in (first_bit sh z) (len sh z) h g) (m sh) r' a l (omega (arith, distance-tables sh ls h g))
+
+-- and of the bits under a mask
+pub proposition_2_under : (mask : List ℕ) (len : ℕ → ℕ) (m r' a : ℕ) (h g : List ℕ) → a < m → NeighbourUnder mask (sum len m) (m * r' + a) h g
+    → OneClose (λ z. apart_under mask (sum len z) (len z) h g) m r' a
+proposition_2_under mask len m r' a h g l near =
+    by_radii (λ z. apart_under mask (sum len z) (len z) h g) m r' a l (omega (arith, under_cuts mask len m h g))
+
+pub proposition_2_under-tables : (sh : Shape) → listed sh ≡ true → (mask : List ℕ) (r' a : ℕ) (h g : List ℕ) → a < m sh → NeighbourUnder mask (q sh) (m sh * r' + a) h g
+    → OneClose (λ z. apart_under mask (first_bit sh z) (len sh z) h g) (m sh) r' a
+proposition_2_under-tables sh ls mask r' a h g l near =
+    by_radii (λ z. apart_under mask (first_bit sh z) (len sh z) h g) (m sh) r' a l (omega (arith, under-tables sh ls mask h g))

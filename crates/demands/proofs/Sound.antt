@@ -8,7 +8,6 @@ use native.Mathlib.Nat.{mod-lt, eq-or-lt_of_le}
 use native.Mathlib.Numerals.{add-one}
 use native.Mathlib.Omega.{arith}
 use lib.Bits.{bit_xor, xor_lt}
-use lib.Count.{ones}
 use lib.Dec.{eqb, ltb, leb}
 use lib.ListN.{length, get_or, take}
 use borrow.Author.Tests.{ne_eqb, lt-ltb, le-ltb, le-leb, lt-leb}
@@ -26,9 +25,9 @@ use Rattle.scope.specs.Walk.{Question, distance_of, opens, opened, tested, near}
 use Rattle.scope.specs.Search.{K, nearest_steps, nearest, within_steps, within}
 use Rattle.scope.proofs.Shapes.{facts}
 use Rattle.scope.proofs.Bucketing.{substring_small, bucket_is, not-bad}
-use Rattle.scope.proofs.Opening.{asks, opened_by_lem}
+use Rattle.scope.proofs.Opening.{asks, ones_under, opened_by_lem}
 use Rattle.scope.proofs.Steps.{enough, until_at, steps_some}
-use Rattle.scope.proofs.Codes.{substring-lt, distance-tables, distance-le, distance_sym}
+use Rattle.scope.proofs.Codes.{substring-lt, under-tables, under-le, under_sym}
 use Rattle.demands.specs.Neighbours.{neighbours, every_entry, kth_distance}
 use Rattle.theory.proofs.Elements.{any_more, all-any-false, all-any-same, all_map}
 
@@ -40,8 +39,8 @@ module _ (ask : Question) (ls : listed ask.index.shape ≡ true) where
       let sh = ask.index.shape in
       cat-all _ (opens ask) N (λ R _.
       let a = R % m sh in
-      all_map _ (λ e. (a, bit_xor (asks ask a) e)) (upto (λ e. eqb (ones e) (R / m sh)) (size sh a))
-      (upto_all _ (λ e. eqb (ones e) (R / m sh)) (size sh a)
+      all_map _ (λ e. (a, bit_xor (asks ask a) e)) (upto (λ e. eqb (ones_under ask a e) (R / m sh)) (size sh a))
+      (upto_all _ (λ e. eqb (ones_under ask a e) (R / m sh)) (size sh a)
       (λ e l _. (mod-lt R (facts sh ls).some_tables, xor_lt (len sh a) (asks ask a) e (substring-lt (first_bit sh a) (len sh a) ask.query) l))))
 
 module _ (ask : Question) (ls : listed ask.index.shape ≡ true) (s : sound ask.index ≡ true) where
@@ -68,9 +67,9 @@ module _ (ask : Question) (ls : listed ask.index.shape ≡ true) (s : sound ask.
       let x = ask.index in
       let sh = x.shape in
       let code = code_of sh.w x.codes i in
-      let (z, hz, once) = found (m sh) (len sh) (λ _. ones) (asks ask) (λ z. substring_of x z i) R (facts sh ls).some_tables
+      let (z, hz, once) = found (m sh) (len sh) (ones_under ask) (asks ask) (λ z. substring_of x z i) R (facts sh ls).some_tables
       (λ z _. (substring-lt (first_bit sh z) (len sh z) ask.query, substring_small x z i))
-      (omega (arith, distance_sym (q sh) ask.query code, distance-tables sh ls ask.query code)) in
+      (omega (arith, under_sym ask.mask ask.query code (q sh), under-tables sh ls ask.mask ask.query code)) in
       tested-own (suc R) i h
       ∙ any_more (is z (substring_of x z i)) _ (opened ask (suc R))
       (is_own (substring_of x) i z)
@@ -95,7 +94,7 @@ module _ (ask : Question) (ls : listed ask.index.shape ≡ true) (s : sound ask.
 
 module _ (ask : Question) where
   within-q : (i : ℕ) → i < n ask.index → distance_of ask i < q ask.index.shape + 1
-  within-q i _ = let sh = ask.index.shape in omega (arith, distance-le (q sh) (code_of sh.w ask.index.codes i) ask.query)
+  within-q i _ = let sh = ask.index.shape in omega (arith, under-le ask.mask (code_of sh.w ask.index.codes i) ask.query (q sh))
 
   -- the scan lists all n entries
   pub length-every : length (every_entry ask) ≡ n ask.index

@@ -15,7 +15,7 @@ use Rattle.scope.specs.Shape.{listed}
 use Rattle.scope.specs.Tables.{Index, index, n, substring_of, built_starts, built_ids, sound}
 use Rattle.scope.specs.Walk.{Question}
 use Rattle.scope.specs.Search.{K}
-use Rattle.scope.specs.Refusals.{Rows, one_to_three, wrong_query, above, few_marks, few_places}
+use Rattle.scope.specs.Refusals.{Rows, one_to_three, wrong_query, wrong_mask, above, few_marks, few_places}
 use Rattle.scope.specs.Calls.{Asked, room, handed, BuildEnd, build_end, check_answer}
 use Rattle.scope.proofs.Shapes.{facts}
 use Rattle.scope.proofs.Rows.{unless-none, all-clear, Fits, fits}
@@ -62,7 +62,7 @@ pub record Ready (x : Index) : Type 0 where
 ready : (ask : Question) (limits marks : List ℕ) (more : Rows) → NoneFits (handed ask limits marks ++ more) → Trusted ask.index → Ready ask.index
 ready ask limits marks more h trusted =
     let x = ask.index in
-    let rest = wrong_query x.shape ask.query ++ above x.shape limits ++ few_marks x marks ++ more in
+    let rest = wrong_query x.shape ask.query ++ wrong_mask x.shape ask.mask ++ above x.shape limits ++ few_marks x marks ++ more in
     let three : NoneFits (one_to_three x) = or-false_left _ _ (sym (any_append (λ (row : Bool × Refusal). row.0) (one_to_three x) rest) ∙ h) in
     record { shape = (fits x three).shape; good = trusted_sound x three trusted }
 

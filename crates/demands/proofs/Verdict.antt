@@ -17,17 +17,18 @@ use Rattle.scope.specs.declared.VerdictReport.{VerdictReport}
 use Rattle.scope.specs.Codes.{code_of}
 use Rattle.scope.specs.Shape.{q, listed}
 use Rattle.scope.specs.Tables.{n, sound}
-use Rattle.scope.specs.Walk.{Question, open_after, distance_of, star_of, opened, tested, near}
+use Rattle.scope.specs.Walk.{Question, open_after, open_after_under, all_ones, distance_of, star_of, opened, tested, near}
 use Rattle.scope.specs.Verdict.{two_stars, rivals, verdict_of, verdict_steps, nearest_rivals}
 use Rattle.scope.specs.Calls.{handed, walked, verdict_report, verdict_answer, verdict_end}
 use Rattle.scope.proofs.Rows.{unless-none, unless_past, met-any}
-use Rattle.scope.proofs.Codes.{distance-le}
+use Rattle.scope.proofs.Codes.{under-le}
 use Rattle.scope.proofs.Opening.{open_after_lem}
 use Rattle.scope.proofs.Steps.{until_at, until_end, verdict-none, verdict_some}
 use Rattle.scope.proofs.Stars.{Foremost, Runner, Told, told, two_stars_yes, two_stars-other}
 use Rattle.demands.specs.Neighbours.{neighbours, every_entry}
 use Rattle.demands.specs.Trust.{VerdictCall}
 use Rattle.demands.specs.Verdicts.{First, Next, Matched, Undecided, Says, Goes}
+use Rattle.demands.proofs.Count.{plain_count}
 use Rattle.demands.proofs.Sound.{none-bad, near-tested}
 use Rattle.demands.proofs.Trusting.{verdict_ready}
 
@@ -216,7 +217,7 @@ module _ (ask : Question) (ls : listed ask.index.shape ≡ true) (s : sound ask.
       let larger : max (dist a) (dist b) ≡ dist b = omega arith in
       Goes.to_the_runner_up a b f' x
       (verdict_some ask some
-      ∙ until_at ask (two_stars star) (dist b) (distance-le (q sh) (code_of sh.w ask.index.codes b) ask.query) (early a b x) (then a b f' x order)
+      ∙ until_at ask (two_stars star) (dist b) (under-le ask.mask (code_of sh.w ask.index.codes b) ask.query (q sh)) (early a b x) (then a b f' x order)
       ∙ ap (λ (d : ℕ). d + 1) (sym larger))
 
   pub verdict_goes : Goes star dist size (q ask.index.shape) N
@@ -264,7 +265,7 @@ module _ (ask : Question) (ls : listed ask.index.shape ≡ true) (s : sound ask.
   told_by (Goes.nowhere z e) = all_seen (λ j h. absurd (omega arith))
   told_by (Goes.to_the_end some one e) =
       let sh = ask.index.shape in
-      all_seen (λ j h. reach N j h (omega (arith, distance-le (q sh) (code_of sh.w ask.index.codes j) ask.query)))
+      all_seen (λ j h. reach N j h (omega (arith, under-le ask.mask (code_of sh.w ask.index.codes j) ask.query (q sh))))
   told_by (Goes.to_the_runner_up i j f x e) = widen i j f.entry x.entry x.other (omega arith) (omega arith)
 
   pub verdict-told : Told star dist every (nearest_rivals ask)
@@ -299,10 +300,16 @@ module _ (ask : Question) (marks : List ℕ) (t g : ℕ) (such : VerdictCall ask
 
   -- and reports the blackboard's count after its last step R
   pub verdict-count : (R : ℕ) → verdict_steps ask ≡ R + 1
-      → (rep : VerdictReport) × ((verdict_end ask marks t g).answer ≡ Ok rep) × (rep.opened.0 ≡ open_after ask.index.shape R)
+      → (rep : VerdictReport) × ((verdict_end ask marks t g).answer ≡ Ok rep) × (rep.opened.0 ≡ open_after_under ask.index.shape ask.mask R)
   unfolding verdict_report
   verdict-count R e = (
     verdict_report ask t g (verdict_steps ask) (nearest_rivals ask),
     verdict_answer_lem,
     ap (λ (N : ℕ). length (opened ask N)) e ∙ open_after_lem ask R (verdict_ready ask marks t g such).shape,
   )
+
+  -- 01's where every bit counts
+  pub verdict-count_plain : (R : ℕ) → ask.mask ≡ all_ones ask.index.shape.w → verdict_steps ask ≡ R + 1
+      → (rep : VerdictReport) × ((verdict_end ask marks t g).answer ≡ Ok rep) × (rep.opened.0 ≡ open_after ask.index.shape R)
+  verdict-count_plain R every e =
+      let (rep, given, opened) = verdict-count R e in (rep, given, opened ∙ plain_count ask every (verdict_ready ask marks t g such).shape R)

@@ -6,3 +6,4 @@ pub mod Radii
 pub mod Places
 pub mod Verdicts
 pub mod Batches
+pub mod Masks

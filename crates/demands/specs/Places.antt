@@ -2,7 +2,7 @@
 use Rattle.std.specs.Prelude.{◌≡◌, true, cond, List, [], ◌∷◌, ℕ, length, get_or}
 use Rattle.theory.specs.Lists.{any}
 use Rattle.scope.specs.Tables.{Index, index, bad, owns_start, owns_id}
-use Rattle.scope.specs.Walk.{Question, question}
+use Rattle.scope.specs.Walk.{Question, masked}
 use Rattle.scope.specs.Calls.{Asked, asked}
 
 -- of these buckets in order, those that a walk opens: up to and with the first bad one
@@ -15,7 +15,7 @@ abbrev pub retabled : Index → List ℕ → List ℕ → Index
 retabled x starts ids = index x.shape x.stars x.codes starts ids
 
 abbrev pub reasked : Question → List ℕ → List ℕ → Question
-reasked ask starts ids = question (retabled ask.index starts ids) ask.query
+reasked ask starts ids = masked (retabled ask.index starts ids) ask.query ask.mask
 
 abbrev pub recalled : Asked → List ℕ → List ℕ → Asked
 recalled c starts ids = asked (reasked c.question starts ids) c.marks c.entries c.distances

@@ -3,19 +3,19 @@ use mathlib.Core.Path.{◌≡◌, sym, ap, ap₂, ◌∙◌, subst}
 use mathlib.Core.Bool.{true}
 use mathlib.Core.List.{List}
 use Prim.Native.Nat.{ℕ, ◌+◌, ◌*◌, ◌/◌, ◌%◌, ◌^◌, ◌≤◌, ◌<◌}
-use native.Mathlib.Nat.{mod-lt, zero-lt-suc, mod-eq_of_lt}
+use native.Mathlib.Nat.{mod-lt, zero-lt-suc, zero-mul, mod-eq_of_lt}
 use native.Mathlib.Omega.{arith}
 use lib.ListN.{get_or, drop}
 use lib.Pow.{shr_mod}
 use lib.Seq.{get_or-take, get_or-drop}
-use lib.Bits.{differ, bit_xor}
+use lib.Bits.{differ, bit_and, bit_xor}
 use lib.Count.{ones}
 use Rattle.theory.specs.Lists.{sum}
 use Rattle.theory.proofs.Sums.{sum_cong, sum_split, sum_cuts, sum-zero, sum_grows, sum-le}
-use Rattle.theory.proofs.Numbers.{number, number_cong, number_lt, number_append, number_digits, number-xor, differ_lt, differ_self, differ_sym}
+use Rattle.theory.proofs.Numbers.{number, number_cong, number_lt, number_append, number_digits, number-xor, number-under, and-bits_lt, differ_lt, differ_self, differ_sym}
 use Rattle.scope.specs.declared.Shape.{Shape}
 use Rattle.scope.specs.Shape.{q, listed, m, first_bit, len}
-use Rattle.scope.specs.Codes.{bit, distance, substring, code_of}
+use Rattle.scope.specs.Codes.{bit, distance, distance_under, substring, code_of}
 use Rattle.scope.proofs.Shapes.{facts}
 
 pub bit-lt : (x : List ℕ) (j : ℕ) → bit x j < 2
@@ -88,37 +88,67 @@ distance-tables sh h x y =
     ap (λ (k : ℕ). distance k x y) (sym f.whole) ∙ distance_cuts (len sh) (m sh) x y
     ∙ sum_cong _ _ (m sh) (λ z l. ap (λ (from : ℕ). ones (bit_xor (substring from (len sh z) x) (substring from (len sh z) y))) (sym (f.cut z)))
 
-pub distance-le : (q : ℕ) (x y : List ℕ) → distance q x y ≤ q
-unfolding distance
-distance-le q x y =
-    omega (arith, sum-le (λ j. differ (bit x j) (bit y j)) 1 q (λ j l. omega (arith, differ_lt (bit x j) (bit y j) (bit-lt x j) (bit-lt y j))))
+-- ---- distance under a mask
 
--- over fewer bits it is no larger
-pub distance_mono : (a b : ℕ) (x y : List ℕ) → a ≤ b → distance a x y ≤ distance b x y
-unfolding distance
-distance_mono a b x y h = sum_grows (λ j. differ (bit x j) (bit y j)) a b h
+-- the bits of a substring that the mask has and that differ are the ones of the exclusive-or under the mask's substring
+substring-under : (from len : ℕ) (mask x y : List ℕ)
+    → sum (λ i. differ (bit x (from + i)) (bit y (from + i)) * bit mask (from + i)) len
+    ≡ ones (bit_and (bit_xor (substring from len x) (substring from len y)) (substring from len mask))
+unfolding substring
+substring-under from len mask x y =
+    sym (number-under (λ i. bit x (from + i)) (λ i. bit y (from + i)) (λ i. bit mask (from + i)) len (λ i. bit-lt x (from + i)) (λ i. bit-lt y (from + i)) (λ i. bit-lt mask (from + i)))
 
-pub distance_self : (q : ℕ) (x : List ℕ) → distance q x x ≡ 0
-unfolding distance
-distance_self q x = sum-zero (λ j. differ (bit x j) (bit x j)) q (λ j l. differ_self (bit x j))
+-- the same over any cut, and over the tables
+pub under_cuts : (mask : List ℕ) (len : ℕ → ℕ) (m : ℕ) (x y : List ℕ)
+    → distance_under mask (sum len m) x y
+    ≡ sum (λ z. ones (bit_and (bit_xor (substring (sum len z) (len z) x) (substring (sum len z) (len z) y)) (substring (sum len z) (len z) mask))) m
+unfolding distance_under
+under_cuts mask len m x y =
+    sum_cuts (λ j. differ (bit x j) (bit y j) * bit mask j) len m ∙ sum_cong _ _ m (λ z l. substring-under (sum len z) (len z) mask x y)
 
-pub distance_sym : (q : ℕ) (x y : List ℕ) → distance q x y ≡ distance q y x
-unfolding distance
-distance_sym q x y = sum_cong _ _ q (λ j l. differ_sym (bit x j) (bit y j))
+pub under-tables : (sh : Shape) → listed sh ≡ true → (mask x y : List ℕ)
+    → distance_under mask (q sh) x y
+    ≡ sum (λ z. ones (bit_and (bit_xor (substring (first_bit sh z) (len sh z) x) (substring (first_bit sh z) (len sh z) y)) (substring (first_bit sh z) (len sh z) mask))) (m sh)
+under-tables sh h mask x y =
+    let f = facts sh h in
+    ap (λ (k : ℕ). distance_under mask k x y) (sym f.whole) ∙ under_cuts mask (len sh) (m sh) x y
+    ∙ sum_cong _ _ (m sh)
+    (λ z l. ap (λ (from : ℕ). ones (bit_and (bit_xor (substring from (len sh z) x) (substring from (len sh z) y)) (substring from (len sh z) mask))) (sym (f.cut z)))
 
--- no bits, and one word more
-pub distance_none : (x y : List ℕ) → distance 0 x y ≡ 0
-unfolding distance
-distance_none x y = sum-zero (λ j. differ (bit x j) (bit y j)) 0 (λ j l. absurd (omega arith))
+module _ (mask x y : List ℕ) where
+  one_at : (j : ℕ) → differ (bit x j) (bit y j) * bit mask j ≤ 1
+  one_at j = omega (arith, and-bits_lt _ _ (differ_lt (bit x j) (bit y j) (bit-lt x j) (bit-lt y j)) (bit-lt mask j))
 
-pub distance_word : (k : ℕ) (x y : List ℕ) → get_or x k 0 < 2 ^ 64 → get_or y k 0 < 2 ^ 64
-    → distance (64 * (k + 1)) x y ≡ distance (64 * k) x y + ones (bit_xor (get_or x k 0) (get_or y k 0))
-unfolding distance
-distance_word k x y hx hy =
-    ap (λ (n : ℕ). distance n x y) (omega arith)
-    ∙ sum_split (λ j. differ (bit x j) (bit y j)) (64 * k) 64
-    ∙ ap (λ (n : ℕ). distance (64 * k) x y + n)
-    (substring-xor (64 * k) 64 x y ∙ ap₂ (λ (a b : ℕ). ones (bit_xor a b)) (substring-whole k x hx) (substring-whole k y hy))
+  pub under-le : (q : ℕ) → distance_under mask q x y ≤ q
+  unfolding distance_under
+  under-le q = omega (arith, sum-le (λ j. differ (bit x j) (bit y j) * bit mask j) 1 q (λ j l. one_at j))
+
+  -- over fewer bits it is no larger
+  pub under_mono : (a b : ℕ) → a ≤ b → distance_under mask a x y ≤ distance_under mask b x y
+  unfolding distance_under
+  under_mono a b h = sum_grows (λ j. differ (bit x j) (bit y j) * bit mask j) a b h
+
+  pub under_sym : (q : ℕ) → distance_under mask q x y ≡ distance_under mask q y x
+  unfolding distance_under
+  under_sym q = sum_cong _ _ q (λ j l. ap (λ (d : ℕ). d * bit mask j) (differ_sym (bit x j) (bit y j)))
+
+  -- no bits, and one word more
+  pub under_none : distance_under mask 0 x y ≡ 0
+  unfolding distance_under
+  under_none = sum-zero (λ j. differ (bit x j) (bit y j) * bit mask j) 0 (λ j l. absurd (omega arith))
+
+  pub under_word : (k : ℕ) → get_or x k 0 < 2 ^ 64 → get_or y k 0 < 2 ^ 64 → get_or mask k 0 < 2 ^ 64
+      → distance_under mask (64 * (k + 1)) x y ≡ distance_under mask (64 * k) x y + ones (bit_and (bit_xor (get_or x k 0) (get_or y k 0)) (get_or mask k 0))
+  unfolding distance_under
+  under_word k hx hy hm =
+      ap (λ (n : ℕ). distance_under mask n x y) (omega arith)
+      ∙ sum_split (λ j. differ (bit x j) (bit y j) * bit mask j) (64 * k) 64
+      ∙ ap (λ (n : ℕ). distance_under mask (64 * k) x y + n)
+      (substring-under (64 * k) 64 mask x y ∙ rw (substring-whole k x hx, substring-whole k y hy, substring-whole k mask hm))
+
+pub under_self : (mask : List ℕ) (q : ℕ) (x : List ℕ) → distance_under mask q x x ≡ 0
+unfolding distance_under
+under_self mask q x = sum-zero (λ j. differ (bit x j) (bit x j) * bit mask j) q (λ j l. ap (λ (d : ℕ). d * bit mask j) (differ_self (bit x j)) ∙ zero-mul (bit mask j))
 
 -- ---- entries
 
@@ -126,11 +156,3 @@ distance_word k x y hx hy =
 pub code_of_word : (w : ℕ) (codes : List ℕ) (i k : ℕ) → k < w → get_or (code_of w codes i) k 0 ≡ get_or codes (i * w + k) 0
 unfolding code_of
 code_of_word w codes i k h = get_or-take w (drop (i * w) codes) k 0 h ∙ get_or-drop (i * w) codes k 0
-
--- one word more of entry i's code
-pub distance-entry : (w : ℕ) (codes query : List ℕ) (i k : ℕ) → k < w → get_or codes (i * w + k) 0 < 2 ^ 64 → get_or query k 0 < 2 ^ 64
-    → distance (64 * (k + 1)) (code_of w codes i) query
-    ≡ distance (64 * k) (code_of w codes i) query + ones (bit_xor (get_or codes (i * w + k) 0) (get_or query k 0))
-distance-entry w codes query i k h hx hy =
-    let word : get_or (code_of w codes i) k 0 ≡ get_or codes (i * w + k) 0 = code_of_word w codes i k h in
-    distance_word k (code_of w codes i) query (omega arith) hy ∙ rw word

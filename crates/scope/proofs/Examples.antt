@@ -8,15 +8,15 @@ use lib.Ieee.{Float, nan, inf, binary64, of_int, round, mul, lt, le}
 use Rattle.theory.specs.Lists.{cat, sum, any, same, first_from, ranked}
 use Rattle.scope.specs.declared.Shape.{Shape}
 use Rattle.scope.specs.declared.Unit.TheVariants.{Degrees, Radians}
-use Rattle.scope.specs.Codes.{bit, distance, substring, code_of}
+use Rattle.scope.specs.Codes.{bit, distance_under, substring, code_of}
 use Rattle.scope.specs.Shape.{shape, q, listed, m, first_bit, len, starts_before}
-use Rattle.scope.specs.Tables.{substring_of, built_starts, built_ids, sound, start, id_at, bucket, bad_id, bad}
-use Rattle.scope.specs.Walk.{opens, opened, tested, near}
+use Rattle.scope.specs.Tables.{index, substring_of, built_starts, built_ids, sound, start, id_at, bucket, bad_id, bad}
+use Rattle.scope.specs.Walk.{masked, distance_of, opens, opened, tested, near}
 use Rattle.scope.specs.Search.{nearest_steps, nearest, within_steps, within}
 use Rattle.scope.specs.Sky.{angle_of, given, finite, per_radian, degrees, edge, in_field, column, angle_at, cell_at, code_from}
-use Rattle.scope.specs.Refusals.{unless, lent, of_sky}
-use Rattle.scope.specs.Calls.{report, nearest_answer, nearest_end, within_answer, within_end, search_end, sky_answer}
-use Rattle.scope.proofs.CatalogueA.{a, spoiled, ask, asked, shown}
+use Rattle.scope.specs.Refusals.{unless, lent, of_judged, of_sky}
+use Rattle.scope.specs.Calls.{report, nearest_answer, nearest_end, within_answer, within_end, search_end, verdict_answer, sky_answer}
+use Rattle.scope.proofs.CatalogueA.{a, spoiled, ask, baffled, asked, shown}
 
 -- ---- shapes: q; the first bits of the first, the second and the last substring and their lengths; and all starts
 
@@ -62,15 +62,30 @@ buckets = refl
 
 -- ---- the walk: what a step opens
 
-masks : opens (ask a) 8 ≡ (0, 2) ∷ (0, 1) ∷ (0, 7) ∷ (0, 11) ∷ (0, 19) ∷ (0, 35) ∷ (0, 67) ∷ (0, 131) ∷ []
+step_8 : opens (ask a) 8 ≡ (0, 2) ∷ (0, 1) ∷ (0, 7) ∷ (0, 11) ∷ (0, 19) ∷ (0, 35) ∷ (0, 67) ∷ (0, 131) ∷ []
 unfolding opens cat first_bit len substring sum bit ones
-masks = refl
+step_8 = refl
+
+-- where the corners are hidden, step 0 opens what differs from the query in cells 0 and 7 alone, ascending by the whole exclusive-or; and the two entries of star 10 are at distance 1
+baffled_step : (opens (baffled a) 0 ≡ (0, 3) ∷ (0, 2) ∷ (0, 131) ∷ (0, 130) ∷ []) × (map (distance_of (baffled a)) (0 ∷ 1 ∷ 2 ∷ 3 ∷ 4 ∷ []) ≡ 1 ∷ 1 ∷ 5 ∷ 59 ∷ 7 ∷ [])
+unfolding opens cat first_bit len substring distance_under code_of sum bit ones
+baffled_step = (refl, refl)
+
+-- hidden bits do not come last: with the last of four bits hidden, step 16 opens what differs in one of the other three, ascending by all four
+hidden_order : opens (masked (index (shape 1 16) [] [] [] []) (0 ∷ []) (7 ∷ [])) 16 ≡ (0, 1) ∷ (0, 2) ∷ (0, 4) ∷ (0, 9) ∷ (0, 10) ∷ (0, 12) ∷ []
+unfolding opens cat first_bit len substring sum bit ones
+hidden_order = refl
+
+-- under a mask of two words, or of none
+wrong_masks : map (λ mask. (of_judged (verdict_answer (masked a (3 ∷ []) mask) (7 ∷ []) 0 0)).0) ([] ∷ (1 ∷ 1 ∷ []) ∷ []) ≡ 4 ∷ 4 ∷ []
+unfolding verdict_answer unless listed starts_before len sum any
+wrong_masks = refl
 
 -- ---- the searches: number and values, then the lists at the end
 
 -- 6 returns T and leaves the first P answers: within 2 with one place
 six : shown (within_end (asked a 1 2) 2) ≡ (6, 2 ∷ [], 0 ∷ 7 ∷ [], 1 ∷ [], 1 ∷ 9 ∷ [])
-unfolding within_end search_end lent within_answer report unless within_steps within ranked tested opened opens bad bad_id start id_at substring_of listed starts_before first_bit len substring distance code_of bit sum cat any ones
+unfolding within_end search_end lent within_answer report unless within_steps within ranked tested opened opens bad bad_id start id_at substring_of listed starts_before first_bit len substring distance_under code_of bit sum cat any ones
 six = refl
 
 -- 7 names table 1, bucket 0, and leaves zeros; where the walk does not meet it, it does not matter; 5 comes before it
@@ -79,7 +94,7 @@ bads :
     ≡ (7, 1 ∷ 0 ∷ [], 0 ∷ 7 ∷ [], 0 ∷ 0 ∷ 9 ∷ [], 0 ∷ 0 ∷ 9 ∷ [])
     ∷ (0, 0 ∷ 1 ∷ 0 ∷ [], 0 ∷ 7 ∷ [], 0 ∷ 0 ∷ [], 0 ∷ 0 ∷ [])
     ∷ (5, [], 7 ∷ 7 ∷ [], 9 ∷ [], 9 ∷ 9 ∷ 9 ∷ []) ∷ []
-unfolding nearest_end within_end search_end lent nearest_answer within_answer report unless nearest_steps nearest within_steps within ranked first_from near tested opened opens bad bad_id start id_at substring_of listed starts_before first_bit len substring distance code_of bit sum cat any ones
+unfolding nearest_end within_end search_end lent nearest_answer within_answer report unless nearest_steps nearest within_steps within ranked first_from near tested opened opens bad bad_id start id_at substring_of listed starts_before first_bit len substring distance_under code_of bit sum cat any ones
 bads = refl
 
 -- ---- the sky: 8; 9 with its place; across before up, so 10 before the 9 of up; 9 before 10 of one angle; an overflow is 10; cells; no stars

@@ -14,20 +14,18 @@ use borrow.Author.Tests.{eq-eqb, le-ltb, ltb-true}
 use Rattle.theory.specs.Lists.{cat, any, over, padded}
 use Rattle.theory.proofs.Lists.{length-padded, over-padded, get_d_tab, cat-none}
 use Rattle.theory.proofs.Placing.{here, length-ranked}
+use Rattle.theory.proofs.Tests.{same_arms}
 use Rattle.scope.specs.declared.Refusal.TheVariants.{BadBucket}
 use Rattle.scope.specs.declared.Report.{Report}
 use Rattle.scope.specs.Shape.{q}
 use Rattle.scope.specs.Tables.{Index, n, bad}
-use Rattle.scope.specs.Walk.{Question, question, distance_of, tested, opened}
+use Rattle.scope.specs.Walk.{Question, question, all_ones, distance_of, tested, opened}
 use Rattle.scope.specs.Search.{K, nearest_steps, answers, nearest}
-use Rattle.scope.specs.Refusals.{of_found, changes, unless, one_to_three, wrong_query, above, few_marks, few_places, met, mark_words, lent}
+use Rattle.scope.specs.Refusals.{of_found, changes, unless, one_to_three, wrong_query, wrong_mask, above, few_marks, few_places, met, mark_words, lent}
 use Rattle.scope.specs.Calls.{asked, handed, walked, report, SearchEnd, leaves, search_end, nearest_answer, nearest_end}
 use Rattle.scope.specs.Batch.{single, outcome_of, answers_of, zero_record, record_from, record_of}
+use Rattle.scope.proofs.Masks.{all_ones-long}
 use Rattle.scope.proofs.Rows.{Fits, unless-append, unless_holds, unrefused}
-
-same_arms : (t : Bool) → cond {A = List ℕ} t [] [] ≡ []
-same_arms true = refl
-same_arms false = refl
 
 -- none of refusals 1 to 4 fits
 module _ (x : Index) (query : List ℕ) (k : ℕ) (h : Fits x) (long : length query ≡ x.shape.w) where
@@ -49,9 +47,9 @@ module _ (x : Index) (query : List ℕ) (k : ℕ) (h : Fits x) (long : length qu
   unfolding nearest_answer unless any it
   answer_is marks entries distances hm he hd =
       unless-append (handed ask [] marks) (few_places (K x k) (min (length entries) (length distances)) ++ walked ask (nearest_steps ask k)) Err listing
-      ∙ unless-append (one_to_three x) (wrong_query x.shape query ++ above x.shape [] ++ few_marks x marks) Err _
+      ∙ unless-append (one_to_three x) (wrong_query x.shape query ++ wrong_mask x.shape (all_ones x.shape.w) ++ above x.shape [] ++ few_marks x marks) Err _
       ∙ unrefused x h Err _
-      ∙ rw (eq-eqb (length query) x.shape.w long, le-ltb (length marks) (mark_words (n x)) hm, le-ltb (min (length entries) (length distances)) (K x k) (omega arith))
+      ∙ rw (eq-eqb (length query) x.shape.w long, eq-eqb (length (all_ones x.shape.w)) x.shape.w (all_ones-long x.shape.w), le-ltb (length marks) (mark_words (n x)) hm, le-ltb (min (length entries) (length distances)) (K x k) (omega arith))
 
   arm : (t : Bool) (b : ℕ × ℕ) (r : Result Report Refusal) → changes (of_found r).0 ≡ true → changes (of_found (cond t (Err (BadBucket b.0 b.1)) r)).0 ≡ true
   arm true b r h = refl
@@ -80,7 +78,7 @@ module _ (x : Index) (query : List ℕ) (k : ℕ) (h : Fits x) (long : length qu
   unfolding nearest_end search_end lent
   end_is marks entries distances hm he hd =
       rw (answer_is marks entries distances hm he hd, changing)
-      (λ i. leaves it (over (padded (mark_words (n x)) (same_arms (eqb (of_found it).0 7) i)) marks) (over (padded (K x k) shown) entries) (over (padded (K x k) away) distances))
+      (λ i. leaves it (over (padded (mark_words (n x)) (same_arms {A = List ℕ} (eqb (of_found it).0 7) [] i)) marks) (over (padded (K x k) shown) entries) (over (padded (K x k) away) distances))
 
   single_is : single x query k ≡ leaves it (padded (mark_words (n x)) []) (padded (K x k) shown) (padded (K x k) away)
   unfolding single

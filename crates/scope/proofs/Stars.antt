@@ -19,7 +19,7 @@ use Rattle.scope.specs.Tables.{n}
 use Rattle.scope.specs.Walk.{Question, distance_of, star_of}
 use Rattle.scope.specs.Search.{answers}
 use Rattle.scope.specs.Verdict.{other_than, two_stars, first_other, rivals}
-use Rattle.scope.proofs.Codes.{distance-le}
+use Rattle.scope.proofs.Codes.{under-le}
 
 -- ---- two different stars
 
@@ -106,7 +106,7 @@ module _ (ask : Question) (keep : ℕ → Bool) where
       let sh = ask.index.shape in
       any-times (eqb j) (answers ask keep (q sh)) ∙ ap (ltb 0) (ranked_once (distance_of ask) keep (n ask.index) j (q sh + 1))
       ∙ one_if_positive (ltb j (n ask.index) && (ltb (distance_of ask j) (q sh + 1) && keep j))
-      ∙ rw (lt-ltb (distance_of ask j) (q sh + 1) (omega (arith, distance-le (q sh) (code_of sh.w ask.index.codes j) ask.query)))
+      ∙ rw (lt-ltb (distance_of ask j) (q sh + 1) (omega (arith, under-le ask.mask (code_of sh.w ask.index.codes j) ask.query (q sh))))
 
   pub told : Told (star_of ask) (distance_of ask) (λ j. ltb j (n ask.index) && keep j) (rivals (star_of ask) (answers ask keep (q ask.index.shape)))
   told =

@@ -7,7 +7,6 @@ use Prim.Native.Nat.{ℕ, zero, suc, ◌+◌, ◌-◌, ◌*◌, ◌/◌, ◌%◌
 use native.Mathlib.Numerals.{add-one}
 use native.Mathlib.Omega.{arith}
 use lib.Dec.{eqb, ltb, leb}
-use lib.Count.{ones}
 use lib.ListN.{length, length-append, length-map}
 use borrow.Author.Tests.{lt-ltb, eqb-true, ltb-false, leb-false}
 use Rattle.theory.specs.Lists.{cat, upto, count, any, has}
@@ -20,7 +19,8 @@ use Rattle.scope.specs.Shape.{q, size, m}
 use Rattle.scope.specs.Tables.{Index, n, start, id_at, places, bucket, bad_id, bad}
 use Rattle.scope.specs.Walk.{Question, distance_of, opens, opened, tested, near}
 use Rattle.scope.specs.Search.{answers}
-use Rattle.scope.proofs.Codes.{distance-le}
+use Rattle.scope.proofs.Codes.{under-le}
+use Rattle.scope.proofs.Opening.{ones_under}
 use Rattle.scope.proofs.Shapes.{Facts, few_buckets}
 
 -- ---- steps
@@ -48,7 +48,7 @@ module _ (ask : Question) where
   opened_few f zero = rw opened-none (omega arith)
   opened_few f (suc N) =
       let a = N % m ask.index.shape in
-      let t : ℕ → Bool = λ e. eqb (ones e) (N / m ask.index.shape) in
+      let t : ℕ → Bool = λ e. eqb (ones_under ask a e) (N / m ask.index.shape) in
       rw (opened-suc, length-append, length-map)
       (omega (arith, opened_few f N, count-le t (size ask.index.shape a), few_buckets ask.index.shape f a))
 
@@ -115,4 +115,4 @@ pub all-within : (ask : Question) (keep : ℕ → Bool) → length (answers ask 
 all-within ask keep =
     length-ranked (n ask.index) (distance_of ask) keep (q ask.index.shape + 1)
     ∙ count_cong _ _ (n ask.index)
-    (λ i _. ap (λ (b : Bool). b && keep i) (lt-ltb (distance_of ask i) (q ask.index.shape + 1) (omega (arith, distance-le (q ask.index.shape) (code_of ask.index.shape.w ask.index.codes i) ask.query))))
+    (λ i _. ap (λ (b : Bool). b && keep i) (lt-ltb (distance_of ask i) (q ask.index.shape + 1) (omega (arith, under-le ask.mask (code_of ask.index.shape.w ask.index.codes i) ask.query (q ask.index.shape)))))

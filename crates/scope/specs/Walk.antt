@@ -1,13 +1,13 @@
--- 01, "The walk". Assumes nothing.
-use Rattle.std.specs.Prelude.{Bool, ◌&&◌, cond, List, map, ℕ, ◌+◌, ◌/◌, ◌%◌, eqb, leb, length, get_or}
-use Rattle.std.specs.Int.Bits.{bit_xor}
+-- 01, "The walk", and L6 of 02, "Cells the baffle hides". Assumes nothing.
+use Rattle.std.specs.Prelude.{Bool, ◌&&◌, cond, List, map, ℕ, ◌+◌, ◌-◌, ◌*◌, ◌/◌, ◌%◌, ◌^◌, eqb, leb, length, get_or}
+use Rattle.std.specs.Int.Bits.{bit_and, bit_xor}
 use Rattle.std.specs.Int.Count.{ones}
-use Rattle.theory.specs.Lists.{sum, cat, upto, count, any, has}
+use Rattle.theory.specs.Lists.{sum, cat, tab, upto, count, any, has}
 use Rattle.theory.specs.Binomials.{L}
 use Rattle.scope.specs.declared.Shape.{Shape}
 use Rattle.scope.specs.declared.Opened.{Opened}
 use Rattle.scope.specs.declared.Tested.{Tested}
-use Rattle.scope.specs.Codes.{distance, substring, code_of}
+use Rattle.scope.specs.Codes.{distance_under, substring, code_of}
 use Rattle.scope.specs.Shape.{q, m, first_bit, len, size}
 use Rattle.scope.specs.Tables.{Index, n, bucket}
 
@@ -23,31 +23,52 @@ open_in sh R z =
 unfoldable pub open_after : Shape → ℕ → ℕ
 open_after sh R = sum (open_in sh R) (m sh)
 
--- what is asked: an index and a query
+-- under a mask, with c of the bits of table z under it, radius ρ costs 2^(len z − c)·L(c, ρ) buckets
+abbrev pub open_in_under : Shape → List ℕ → ℕ → ℕ → ℕ
+open_in_under sh mask R z =
+    let r = R / m sh in
+    let a = R % m sh in
+    let c = ones (substring (first_bit sh z) (len sh z) mask) in
+    2 ^ (len sh z - c) * L c (cond (leb z a) (r + 1) r)
+
+-- and of all tables
+unfoldable pub open_after_under : Shape → List ℕ → ℕ → ℕ
+open_after_under sh mask R = sum (open_in_under sh mask R) (m sh)
+
+-- what is asked: an index, a query and a mask of the bits that count
 pub record Question : Type 0 where
   pub index : Index
   pub query : List ℕ
+  pub mask : List ℕ
+
+abbrev pub masked : Index → List ℕ → List ℕ → Question
+masked x query mask = record { index = x; query = query; mask = mask }
+
+-- without a mask all bits count: w words of 64 ones
+abbrev pub all_ones : ℕ → List ℕ
+all_ones w = tab (λ _. 2 ^ 64 - 1) w
 
 abbrev pub question : Index → List ℕ → Question
-question x query = record { index = x; query = query }
+question x query = masked x query (all_ones x.shape.w)
 
 module _ (ask : Question) where
-  -- entry i's distance from the query
+  -- entry i's distance from the query, of the bits under the mask
   abbrev pub distance_of : ℕ → ℕ
-  distance_of i = distance (q ask.index.shape) (code_of ask.index.shape.w ask.index.codes i) ask.query
+  distance_of i = distance_under ask.mask (q ask.index.shape) (code_of ask.index.shape.w ask.index.codes i) ask.query
 
   -- entry i's star
   abbrev pub star_of : ℕ → ℕ
   star_of i = get_or ask.index.stars i 0
 
-  -- step R = m·r' + a opens in table a every bucket whose exclusive-or with the query's substring has exactly r' ones, ascending by it
+  -- step R = m·r' + a opens in table a every bucket whose exclusive-or with the query's substring has exactly r' ones under the mask, ascending by the whole exclusive-or
   unfoldable pub opens : ℕ → List (ℕ × ℕ)
   opens R =
       let sh = ask.index.shape in
       let r = R / m sh in
       let a = R % m sh in
       let sub = substring (first_bit sh a) (len sh a) ask.query in
-      map (λ e. (a, bit_xor sub e)) (upto (λ e. eqb (ones e) r) (size sh a))
+      let under = substring (first_bit sh a) (len sh a) ask.mask in
+      map (λ e. (a, bit_xor sub e)) (upto (λ e. eqb (ones (bit_and e under)) r) (size sh a))
 
   -- what the first N steps open, in order: after step R, N is R + 1
   unfoldable pub opened : ℕ → List (ℕ × ℕ)

@@ -31,9 +31,9 @@ use Rattle.search.proofs.Refusing.{none_fits, one_fits_lem, keeps}
 
 -- ---- refusals 1 to 5 change no list
 
-pub early_keeps : (x : Index) (query limits marks : List ℕ) (f : Refusal) → allowed (one_to_five x query limits marks) ≡ Err f → changes (refusal f).0 ≡ false
+pub early_keeps : (x : Index) (query mask limits marks : List ℕ) (f : Refusal) → allowed (one_to_five x query mask limits marks) ≡ Err f → changes (refusal f).0 ≡ false
 unfolding any
-early_keeps x query limits marks f = keeps (one_to_five x query limits marks) f refl
+early_keeps x query mask limits marks f = keeps (one_to_five x query mask limits marks) f refl
 
 -- ---- the places that are needed, and the rest, which stays
 
@@ -80,18 +80,18 @@ module _ (ask : Question) (marks entries distances : List ℕ) where
     rest : Rows
     rest = few_places (K ask.index k) (room whole) ++ walked ask (nearest_steps ask k)
 
-    pub nearest_early : (f : Refusal) → allowed (one_to_five ask.index ask.query (0 ∷ []) marks) ≡ Err f
+    pub nearest_early : (f : Refusal) → allowed (one_to_five ask.index ask.query ask.mask (0 ∷ []) marks) ≡ Err f
         → leaves (Err f) marks entries distances ≡ nearest_end whole k
     unfolding nearest_end nearest_answer rest
     nearest_early f e =
-        let e' : allowed (one_to_five ask.index ask.query [] marks) ≡ Err f = rw no_limit at e in
+        let e' : allowed (one_to_five ask.index ask.query ask.mask [] marks) ≡ Err f = rw no_limit at e in
         sym (rw (
           unless-append (handed ask [] marks) rest Err (Ok (report ask (nearest_steps ask k) (nearest ask k))),
           one_fits_lem Err (unless rest Err (Ok (report ask (nearest_steps ask k) (nearest ask k)))) (handed ask [] marks) f e',
         )
-        (unchanged whole (K ask.index k) (nearest ask k) f (early_keeps ask.index ask.query [] marks f e')))
+        (unchanged whole (K ask.index k) (nearest ask k) f (early_keeps ask.index ask.query ask.mask [] marks f e')))
 
-    module _ (fine : allowed (one_to_five ask.index ask.query (0 ∷ []) marks) ≡ Ok tt) where
+    module _ (fine : allowed (one_to_five ask.index ask.query ask.mask (0 ∷ []) marks) ≡ Ok tt) where
       past-five : nearest_answer whole k ≡ unless rest Err (Ok (report ask (nearest_steps ask k) (nearest ask k)))
       unfolding nearest_answer rest
       past-five =
@@ -114,7 +114,7 @@ module _ (ask : Question) (marks entries distances : List ℕ) where
     then : Rows
     then = walked ask (within_steps ask.index r) ++ too_many (length (within ask r)) (room whole)
 
-    pub within_early : (f : Refusal) → allowed (one_to_five ask.index ask.query (r ∷ []) marks) ≡ Err f
+    pub within_early : (f : Refusal) → allowed (one_to_five ask.index ask.query ask.mask (r ∷ []) marks) ≡ Err f
         → leaves (Err f) marks entries distances ≡ within_end whole r
     unfolding within_end within_answer then
     within_early f e =
@@ -122,7 +122,7 @@ module _ (ask : Question) (marks entries distances : List ℕ) where
           unless-append (handed ask (r ∷ []) marks) then Err (Ok (report ask (within_steps ask.index r) (within ask r))),
           one_fits_lem Err (unless then Err (Ok (report ask (within_steps ask.index r) (within ask r)))) (handed ask (r ∷ []) marks) f e,
         )
-        (unchanged whole (min (n ask.index) (room whole)) (within ask r) f (early_keeps ask.index ask.query (r ∷ []) marks f e)))
+        (unchanged whole (min (n ask.index) (room whole)) (within ask r) f (early_keeps ask.index ask.query ask.mask (r ∷ []) marks f e)))
 
     -- no more are listed than there are entries: they are too many for the lists where they are for the places that are filled
     within_few : length (within ask r) ≤ n ask.index
@@ -147,7 +147,7 @@ module _ (ask : Question) (marks entries distances : List ℕ) where
         let e : room (needed places) ≡ places = omega (arith, c.listed, c.measured) in
         rw (e, min-eq_right (min-le_left (n ask.index) (room whole)), same_test (length (within ask r)) (room whole) within_few)
 
-    pub within-whole : allowed (one_to_five ask.index ask.query (r ∷ []) marks) ≡ Ok tt → Enough places
+    pub within-whole : allowed (one_to_five ask.index ask.query ask.mask (r ∷ []) marks) ≡ Ok tt → Enough places
         → {o : Result Report Refusal} {m e d : List ℕ} → leaves o m e d ≡ within_past (needed places) r
         → leaves o (m ++ drop words marks) (e ++ drop places entries) (d ++ drop places distances) ≡ within_end whole r
     unfolding within_end within_answer within_found then

@@ -4,4 +4,5 @@ pub mod Listing
 pub mod Answering
 pub mod Judging
 pub mod Verdicts
+mod Plain
 pub mod Determined

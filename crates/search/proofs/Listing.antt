@@ -62,12 +62,12 @@ module _ (ask : Question) (w : Walk) (marks tally : List ℕ) (e : Listable ask 
   in_tally = let whole = e.whole in let inside = e.inside in omega arith
 
   pub rankable : Asked ask → (entries distances : List ℕ) → length distances ≡ length entries
-      → Rankable ask.index.codes ask.index.shape.w (n ask.index) ask.query w.seen.limit (length entries) marks (take (w.seen.limit + 1) tally) entries distances
+      → Rankable ask.index.codes ask.index.shape.w (n ask.index) ask.query ask.mask w.seen.limit (length entries) marks (take (w.seen.limit + 1) tally) entries distances
   rankable a entries distances places =
       record {
         few = a.lent.few;
         coded = omega (arith, a.lent.codes);
-        asked = omega (arith, a.query);
+        asked = (omega (arith, a.query), omega (arith, a.mask));
         marked = omega (arith, e.long);
         listed = omega arith;
         measured = omega (arith, places);
@@ -79,7 +79,7 @@ module _ (ask : Question) (w : Walk) (marks tally : List ℕ) (e : Listable ask 
 
   -- the lists are just the places, and the marks just the words, that ranking fills and clears
   pub whole : {entries distances marks' tally' entries' distances' : List ℕ} → length distances ≡ length entries
-      → Ranked ask.index.codes ask.index.shape.w (n ask.index) ask.query w.seen.limit (length entries) marks entries distances marks' tally' entries' distances'
+      → Ranked ask.index.codes ask.index.shape.w (n ask.index) ask.query ask.mask w.seen.limit (length entries) marks entries distances marks' tally' entries' distances'
       → let l = answers ask (is_marked marks) w.seen.limit in
       (marks' ≡ padded (length marks) [])
       × (entries' ≡ padded (length entries) l)

@@ -13,8 +13,8 @@ use Rattle.theory.proofs.Tests.{or-false_left, or-false_right}
 use Rattle.scope.specs.declared.Refusal.{Refusal}
 use Rattle.scope.specs.Shape.{q}
 use Rattle.scope.specs.Tables.{Index, n}
-use Rattle.scope.specs.Walk.{Question, question}
-use Rattle.scope.specs.Refusals.{Rows, refusal, changes, unless, one_to_three, wrong_query, above, few_marks, one_to_five, mark_words, allowed}
+use Rattle.scope.specs.Walk.{Question, masked}
+use Rattle.scope.specs.Refusals.{Rows, refusal, changes, unless, one_to_three, wrong_query, wrong_mask, above, few_marks, one_to_five, mark_words, allowed}
 use Rattle.scope.proofs.Rows.{one_fits, unless-append, unless-none, unless_past, all-clear, one_refuses, not-refused}
 use Rattle.walk.proofs.Asked.{of_asked}
 
@@ -57,54 +57,55 @@ keeps rows f k h = not-refused Err (Ok tt) fine_apart refused-same rows f h (λ 
 
 -- ---- refusals 1 to 3, and then 4 and 5
 
-abbrev pub four_and_five : Index → List ℕ → List ℕ → List ℕ → Rows
-four_and_five x query limits marks = wrong_query x.shape query ++ above x.shape limits ++ few_marks x marks
+abbrev pub four_and_five : Index → (query mask limits marks : List ℕ) → Rows
+four_and_five x query mask limits marks = wrong_query x.shape query ++ wrong_mask x.shape mask ++ above x.shape limits ++ few_marks x marks
 
-module _ (x : Index) (query limits marks : List ℕ) {A : Type 0} (refused : Refusal → A) (answer : A) where
-  pub first_three : {f : Refusal} → ◌≡◌ {A = Result Index Refusal} (Err f) (unless (one_to_three x) Err (Ok x)) → unless (one_to_five x query limits marks) refused answer ≡ refused f
-  first_three e = unless-append (one_to_three x) (four_and_five x query limits marks) refused answer ∙ refuses x (one_to_three x) e refused _
+module _ (x : Index) (query mask limits marks : List ℕ) {A : Type 0} (refused : Refusal → A) (answer : A) where
+  pub first_three : {f : Refusal} → ◌≡◌ {A = Result Index Refusal} (Err f) (unless (one_to_three x) Err (Ok x)) → unless (one_to_five x query mask limits marks) refused answer ≡ refused f
+  first_three e = unless-append (one_to_three x) (four_and_five x query mask limits marks) refused answer ∙ refuses x (one_to_three x) e refused _
 
-  pub past_three : one_fits (one_to_three x) ≡ false → unless (one_to_five x query limits marks) refused answer ≡ unless (four_and_five x query limits marks) refused answer
-  past_three h = unless_past (one_to_three x) (four_and_five x query limits marks) refused answer h
+  pub past_three : one_fits (one_to_three x) ≡ false → unless (one_to_five x query mask limits marks) refused answer ≡ unless (four_and_five x query mask limits marks) refused answer
+  past_three h = unless_past (one_to_three x) (four_and_five x query mask limits marks) refused answer h
 
   module _ (three : one_fits (one_to_three x) ≡ false) where
-    pub first_four : {B : Type 0} (b : B) {f : Refusal} → ◌≡◌ {A = Result B Refusal} (Err f) (unless (wrong_query x.shape query) Err (Ok b))
-        → unless (one_to_five x query limits marks) refused answer ≡ refused f
+    pub first_four : {B : Type 0} (b : B) {f : Refusal} → ◌≡◌ {A = Result B Refusal} (Err f) (unless (wrong_query x.shape query ++ wrong_mask x.shape mask) Err (Ok b))
+        → unless (one_to_five x query mask limits marks) refused answer ≡ refused f
     first_four b e =
-        past_three three ∙ unless-append (wrong_query x.shape query) (above x.shape limits ++ few_marks x marks) refused answer
-        ∙ refuses b (wrong_query x.shape query) e refused _
+        past_three three ∙ unless-append (wrong_query x.shape query ++ wrong_mask x.shape mask) (above x.shape limits ++ few_marks x marks) refused answer
+        ∙ refuses b (wrong_query x.shape query ++ wrong_mask x.shape mask) e refused _
 
-    pub past_four : one_fits (wrong_query x.shape query) ≡ false
-        → unless (one_to_five x query limits marks) refused answer ≡ unless (above x.shape limits ++ few_marks x marks) refused answer
-    past_four h = past_three three ∙ unless_past (wrong_query x.shape query) (above x.shape limits ++ few_marks x marks) refused answer h
+    pub past_four : one_fits (wrong_query x.shape query ++ wrong_mask x.shape mask) ≡ false
+        → unless (one_to_five x query mask limits marks) refused answer ≡ unless (above x.shape limits ++ few_marks x marks) refused answer
+    past_four h = past_three three ∙ unless_past (wrong_query x.shape query ++ wrong_mask x.shape mask) (above x.shape limits ++ few_marks x marks) refused answer h
 
 -- the same of a question that was not accepted
-pub not_accepted : (x : Index) (query limits marks : List ℕ) {f : Refusal}
-    → ◌≡◌ {A = Result Question Refusal} (Err f) (unless (one_to_five x query limits marks) Err (Ok (question x query)))
-    → allowed (one_to_five x query limits marks) ≡ Err f
-not_accepted x query limits marks e = refuses (question x query) (one_to_five x query limits marks) e Err (Ok tt)
+pub not_accepted : (x : Index) (query mask limits marks : List ℕ) {f : Refusal}
+    → ◌≡◌ {A = Result Question Refusal} (Err f) (unless (one_to_five x query mask limits marks) Err (Ok (masked x query mask)))
+    → allowed (one_to_five x query mask limits marks) ≡ Err f
+not_accepted x query mask limits marks e = refuses (masked x query mask) (one_to_five x query mask limits marks) e Err (Ok tt)
 
 -- ---- what holds once none of them fits
 
 -- none of 1 to 5 fits, but for the answer lists: the question in hand is the one that is asked, and w words of marks are all that it needs, and lent
-pub record Fit (x : Index) (query limits marks : List ℕ) (ask : Question) (w : ℕ) : Type 0 where
-  pub is : ask ≡ question x query
-  pub none : allowed (one_to_five x query limits marks) ≡ Ok tt
+pub record Fit (x : Index) (query mask limits marks : List ℕ) (ask : Question) (w : ℕ) : Type 0 where
+  pub is : ask ≡ masked x query mask
+  pub none : allowed (one_to_five x query mask limits marks) ≡ Ok tt
   pub limited : any (λ r. ltb (q x.shape) r) limits ≡ false
   pub room : mark_words (n x) ≤ length marks
   pub words : w ≡ mark_words (n x)
   pub lent : w ≤ length marks
 
-pub accepted : (x : Index) (query limits marks : List ℕ) {ask inside : Question} {w : ℕ}
-    → ◌≡◌ {A = Result Question Refusal} (Ok ask) (unless (one_to_five x query limits marks) Err (Ok (question x query)))
-    → inside ≡ ask → w ≡ mark_words (n inside.index) → Fit x query limits marks ask w
+pub accepted : (x : Index) (query mask limits marks : List ℕ) {ask inside : Question} {w : ℕ}
+    → ◌≡◌ {A = Result Question Refusal} (Ok ask) (unless (one_to_five x query mask limits marks) Err (Ok (masked x query mask)))
+    → inside ≡ ask → w ≡ mark_words (n inside.index) → Fit x query mask limits marks ask w
 unfolding any
-accepted x query limits marks e inside long =
-    let rows = one_to_five x query limits marks in
+accepted x query mask limits marks e inside long =
+    let rows = one_to_five x query mask limits marks in
     let (none, is) = given rows e in
-    let both = sym (any_append (λ (row : Bool × Refusal). row.0) (one_to_three x) (four_and_five x query limits marks)) ∙ none in
+    let both = sym (any_append (λ (row : Bool × Refusal). row.0) (one_to_three x) (four_and_five x query mask limits marks)) ∙ none in
     let four = or-false_right (one_fits (one_to_three x)) _ both in
-    let five = or-false_right (not (eqb (length query) x.shape.w)) _ four in
+    let mask_four = or-false_right (not (eqb (length query) x.shape.w)) _ four in
+    let five = or-false_right (not (eqb (length mask) x.shape.w)) _ mask_four in
     let room = ltb-false _ _ (or-false_left _ _ (or-false_right (any (λ r. ltb (q x.shape) r) limits) _ five)) in
     let words = rw is at (of_asked (λ x. mark_words (n x)) inside long) in
     record {

@@ -25,7 +25,7 @@ use Rattle.scope.specs.Verdict.{verdict_of, verdict_steps, nearest_rivals}
 use Rattle.scope.specs.Refusals.{of_judged, changes, met, unless, one_to_five, mark_words, lent, allowed}
 use Rattle.scope.specs.Calls.{handed, walked, judges, verdict_report, verdict_answer, verdict_end}
 use Rattle.scope.proofs.Rows.{unless-append, unless-none, two_limits}
-use Rattle.scope.proofs.Codes.{distance-le}
+use Rattle.scope.proofs.Codes.{under-le}
 use Rattle.scope.proofs.Shapes.{facts}
 use Rattle.scope.proofs.Stars.{Foremost, Runner, Told, told}
 use Rattle.walk.specs.declared.Aim.TheVariants as aim
@@ -97,7 +97,7 @@ module _ (ask : Question) (w : Walk) (marks tally : List ℕ) (a : Asked ask) (e
   rivals_stand =
       let sh = ask.index.shape in
       stand (star_of ask) (distance_of ask) seen (λ i h. let few = a.lent.few in omega (arith, entry i h))
-      (λ i _. let f = (facts sh a.lent.known).few_words in omega (arith, distance-le (q sh) (code_of sh.w ask.index.codes i) ask.query))
+      (λ i _. let f = (facts sh a.lent.known).few_words in omega (arith, under-le ask.mask (code_of sh.w ask.index.codes i) ask.query (q sh)))
       w.seen.rivals e.left _
       (subst (λ (t : ℕ → Bool). Told (star_of ask) (distance_of ask) t (nearest_rivals ask)) (λ k j. seen_is j k) (told ask seen))
 
@@ -146,18 +146,18 @@ module _ (ask : Question) (marks : List ℕ) (t g : ℕ) where
   unfolding verdict_answer verdict_found
   answer_is = unless-append (handed ask (t ∷ g ∷ []) marks) (walked ask (verdict_steps ask)) Err _
 
-  pub verdict_early : (f : Refusal) → allowed (one_to_five ask.index ask.query (max t g ∷ []) marks) ≡ Err f
+  pub verdict_early : (f : Refusal) → allowed (one_to_five ask.index ask.query ask.mask (max t g ∷ []) marks) ≡ Err f
       → judges (Err f) marks ≡ verdict_end ask marks t g
   unfolding verdict_end lent
   verdict_early f e =
-      let e' : allowed (one_to_five ask.index ask.query (t ∷ g ∷ []) marks) ≡ Err f = rw two_limits at e in
+      let e' : allowed (one_to_five ask.index ask.query ask.mask (t ∷ g ∷ []) marks) ≡ Err f = rw two_limits at e in
       sym (rw (
         answer_is,
         one_fits_lem Err (verdict_found ask t g) (handed ask (t ∷ g ∷ []) marks) f e',
-        early_keeps ask.index ask.query (t ∷ g ∷ []) marks f e',
+        early_keeps ask.index ask.query ask.mask (t ∷ g ∷ []) marks f e',
       ))
 
-  pub verdict-whole : allowed (one_to_five ask.index ask.query (max t g ∷ []) marks) ≡ Ok tt → (r : Result VerdictReport Refusal) (m : List ℕ) → r ≡ verdict_found ask t g
+  pub verdict-whole : allowed (one_to_five ask.index ask.query ask.mask (max t g ∷ []) marks) ≡ Ok tt → (r : Result VerdictReport Refusal) (m : List ℕ) → r ≡ verdict_found ask t g
       → m ≡ padded (mark_words (n ask.index)) [] → judges r (m ++ drop (mark_words (n ask.index)) marks) ≡ verdict_end ask marks t g
   unfolding verdict_end verdict_found
   verdict-whole fine r m e z =

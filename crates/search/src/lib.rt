@@ -5,7 +5,7 @@ ghost use Rattle.std.specs.Prelude.{◌≡◌, Ok, Err, IfOk, [], ◌∷◌, ℕ
 ghost use Rattle.theory.specs.Lists.{padded};
 ghost use Rattle.scope.specs.Shape.{q};
 ghost use Rattle.scope.specs.Tables.{n};
-ghost use Rattle.scope.specs.Walk.{question, distance_of};
+ghost use Rattle.scope.specs.Walk.{question, masked, all_ones, distance_of};
 ghost use Rattle.scope.specs.Refusals.{unless, one_to_five, mark_words};
 ghost use Rattle.scope.specs.Calls.{asked, leaves, nearest_end, within_end, judges, verdict_end};
 ghost use Rattle.walk.specs.Steps.{Fresh};
@@ -18,17 +18,21 @@ use scope::{Index, Refusal, Report, Verdict, VerdictReport};
 use shapes::Accepted;
 use walk::{Question, Rivals, Standing, Walk};
 
+// As many words as the longest code has, every bit set.
+const ALL_ONES: [u64; 4] = [u64::MAX; 4];
+
 // Refusals 1 to 5, but for the answer lists; of several limits the largest decides.
 fn accept<'a>(
     index: &Index<'a>,
     query: &'a [u64],
+    mask: &'a [u64],
     limit: u32,
     marks: &[u64],
 ) -> Result<Question<'a>, Refusal>
-    ensures { result ≡ unless (one_to_five index.now query.now (limit ∷ []) marks.now) Err (Ok (question index.now query.now)) }
+    ensures { result ≡ unless (one_to_five index.now query.now mask.now (limit ∷ []) marks.now) Err (Ok (masked index.now query.now mask.now)) }
 {
     let index = Accepted::of(index)?;
-    let ask = Question::of(index, query)?;
+    let ask = Question::of(index, query, mask)?;
     let index = &ask.index;
     if index.shape.q() < limit {
         return Err(Refusal::Query);
@@ -79,6 +83,7 @@ fn list(
     let asked = ranking::Asked {
         codes: index.codes(),
         query: ask.query,
+        mask: ask.mask,
         limit,
     };
     let n = index.entries();
@@ -113,7 +118,9 @@ fn list_nearest(
     })
 }
 
-// Lists the entries within r, as many as there are places, where none of refusals 1 to 5 fits. The lists as above, with no more places than entries.
+// Lists the entries within r, as many as there are places, where none of refusals 1 to 5 fits. The lists as above, with no more places than entries. Inlined: a search among no entries
+// makes no tally then.
+#[inline(always)]
 fn list_within(
     ask: &Question<'_>,
     r: u32,
@@ -139,19 +146,21 @@ fn list_within(
     })
 }
 
-// The k nearest entries, by distance and then by number. The lists stand apart, as C lends them. Inlined: what C hands in is tested in registers, and a refused call stores no index.
+// The k nearest entries under a mask of the bits that count, by distance and then by number. The lists stand apart, as C lends them. Inlined: what C hands in is tested in registers,
+// and a refused call stores no index.
 #[inline(always)]
-pub fn nearest<'a>(
+pub fn nearest_masked<'a>(
     index: &Index<'a>,
     query: &'a [u64],
+    mask: &'a [u64],
     k: u32,
     marks: &mut [u64],
     entries: &mut [u32],
     distances: &mut [u32],
 ) -> Result<Report, Refusal>
-    ensures { leaves result marks.new entries.new distances.new ≡ nearest_end (asked (question index.now query.now) marks.old entries.old distances.old) k }
+    ensures { leaves result marks.new entries.new distances.new ≡ nearest_end (asked (masked index.now query.now mask.now) marks.old entries.old distances.old) k }
 {
-    let ask = accept(index, query, 0, marks)?;
+    let ask = accept(index, query, mask, 0, marks)?;
     let words = ask.index.mark_words();
     let n = ask.index.entries();
     let k = k.min(n as u32);
@@ -168,18 +177,20 @@ pub fn nearest<'a>(
     )
 }
 
-// All entries within r of the query, by distance and then by number.
-pub fn within<'a>(
+// All entries within r of the query under a mask, by distance and then by number. Inlined like nearest_masked, as are the other searches.
+#[inline(always)]
+pub fn within_masked<'a>(
     index: &Index<'a>,
     query: &'a [u64],
+    mask: &'a [u64],
     r: u32,
     marks: &mut [u64],
     entries: &mut [u32],
     distances: &mut [u32],
 ) -> Result<Report, Refusal>
-    ensures { leaves result marks.new entries.new distances.new ≡ within_end (asked (question index.now query.now) marks.old entries.old distances.old) r }
+    ensures { leaves result marks.new entries.new distances.new ≡ within_end (asked (masked index.now query.now mask.now) marks.old entries.old distances.old) r }
 {
-    let ask = accept(index, query, r, marks)?;
+    let ask = accept(index, query, mask, r, marks)?;
     let words = ask.index.mark_words();
     let shorter = entries.len().min(distances.len());
     let places = shorter.min(ask.index.entries());
@@ -190,6 +201,45 @@ pub fn within<'a>(
         &mut entries[..places],
         &mut distances[..places],
     )
+}
+
+// A mask for a call without one: every bit counts. One for a w that is not listed is never looked at.
+fn all_ones(w: u32) -> &'static [u64]
+    ensures { w ≤ 4 → result.now ≡ all_ones w }
+{
+    &ALL_ONES[..w.min(4) as usize]
+}
+
+// The k nearest entries, where every bit counts.
+#[inline(always)]
+pub fn nearest<'a>(
+    index: &Index<'a>,
+    query: &'a [u64],
+    k: u32,
+    marks: &mut [u64],
+    entries: &mut [u32],
+    distances: &mut [u32],
+) -> Result<Report, Refusal>
+    ensures { leaves result marks.new entries.new distances.new ≡ nearest_end (asked (question index.now query.now) marks.old entries.old distances.old) k }
+{
+    let mask = all_ones(index.shape.w);
+    nearest_masked(index, query, mask, k, marks, entries, distances)
+}
+
+// All entries within r of the query, where every bit counts.
+#[inline(always)]
+pub fn within<'a>(
+    index: &Index<'a>,
+    query: &'a [u64],
+    r: u32,
+    marks: &mut [u64],
+    entries: &mut [u32],
+    distances: &mut [u32],
+) -> Result<Report, Refusal>
+    ensures { leaves result marks.new entries.new distances.new ≡ within_end (asked (question index.now query.now) marks.old entries.old distances.old) r }
+{
+    let mask = all_ones(index.shape.w);
+    within_masked(index, query, mask, r, marks, entries, distances)
 }
 
 // A search that lists entries, as a value: the k nearest, or all within r.
@@ -247,7 +297,8 @@ fn judge(index: &Accepted<'_>, rivals: Rivals, t: u32, g: u32) -> Verdict
     Verdict::Match { star, distance }
 }
 
-// Gives the verdict, where none of refusals 1 to 5 fits. The marks are the words that n entries need.
+// Gives the verdict, where none of refusals 1 to 5 fits. The marks are the words that n entries need. Inlined like list_within.
+#[inline(always)]
 fn give_verdict(
     ask: &Question<'_>,
     t: u32,
@@ -270,7 +321,25 @@ fn give_verdict(
     })
 }
 
-// The verdict on the nearest entry and its runner-up, the nearest of another star, with reach t and gap g.
+// The verdict on the nearest entry under a mask and its runner-up, the nearest of another star, with reach t and gap g.
+#[inline(always)]
+pub fn verdict_masked<'a>(
+    index: &Index<'a>,
+    query: &'a [u64],
+    mask: &'a [u64],
+    t: u32,
+    g: u32,
+    marks: &mut [u64],
+) -> Result<VerdictReport, Refusal>
+    ensures { judges result marks.new ≡ verdict_end (masked index.now query.now mask.now) marks.old t g }
+{
+    let ask = accept(index, query, mask, t.max(g), marks)?;
+    let words = ask.index.mark_words();
+    give_verdict(&ask, t, g, &mut marks[..words])
+}
+
+// The verdict where every bit counts.
+#[inline(always)]
 pub fn verdict<'a>(
     index: &Index<'a>,
     query: &'a [u64],
@@ -280,7 +349,6 @@ pub fn verdict<'a>(
 ) -> Result<VerdictReport, Refusal>
     ensures { judges result marks.new ≡ verdict_end (question index.now query.now) marks.old t g }
 {
-    let ask = accept(index, query, t.max(g), marks)?;
-    let words = ask.index.mark_words();
-    give_verdict(&ask, t, g, &mut marks[..words])
+    let mask = all_ones(index.shape.w);
+    verdict_masked(index, query, mask, t, g, marks)
 }

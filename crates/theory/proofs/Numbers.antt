@@ -6,7 +6,7 @@ use native.Mathlib.Numerals.{one-add}
 use native.Mathlib.Omega.{arith}
 use lib.Arith.{digits_lt}
 use lib.Pow.{pow-add, mod-pow-add, shr-shr, shl_exact, shl_lt}
-use lib.Bits.{differ, bit_xor, xor_block}
+use lib.Bits.{differ, bit_and, bit_xor, and_block, xor_block}
 use lib.Count.{ones, ones_cat}
 use Rattle.theory.specs.Lists.{sum}
 use Rattle.theory.proofs.Sums.{sum-suc, sum_cong}
@@ -117,9 +117,36 @@ differ_sym zero (suc b) = refl
 differ_sym (suc a) zero = refl
 differ_sym (suc a) (suc b) = differ_sym a b
 
+pub number-differ : (f g : ℕ → ℕ) (n : ℕ) → Bits f → Bits g → bit_xor (number f n) (number g n) ≡ number (λ i. differ (f i) (g i)) n
+number-differ f g n hf hg =
+    number_op bit_xor refl xor_block f g n hf hg
+    ∙ number_cong (λ i. bit_xor (f i) (g i)) (λ i. differ (f i) (g i)) n (λ i l. xor-bits (f i) (g i) (hf i) (hg i))
+
 -- the exclusive-or has as many ones as there are bits that differ
 pub number-xor : (f g : ℕ → ℕ) (n : ℕ) → Bits f → Bits g → ones (bit_xor (number f n) (number g n)) ≡ sum (λ i. differ (f i) (g i)) n
 number-xor f g n hf hg =
-    ap ones (number_op bit_xor refl xor_block f g n hf hg
-    ∙ number_cong (λ i. bit_xor (f i) (g i)) (λ i. differ (f i) (g i)) n (λ i l. xor-bits (f i) (g i) (hf i) (hg i)))
-    ∙ number-ones (λ i. differ (f i) (g i)) n (λ i. differ_lt (f i) (g i) (hf i) (hg i))
+    ap ones (number-differ f g n hf hg) ∙ number-ones (λ i. differ (f i) (g i)) n (λ i. differ_lt (f i) (g i) (hf i) (hg i))
+
+-- on bits `bit_and` is the product: 1 where both are
+and-bits : (a b : ℕ) → a < 2 → b < 2 → bit_and a b ≡ a * b
+and-bits zero b h l = omega arith
+and-bits (suc zero) zero h l = refl
+and-bits (suc zero) (suc zero) h l = refl
+and-bits (suc zero) (suc (suc b)) h l = absurd (omega arith)
+and-bits (suc (suc a)) b h l = absurd (omega arith)
+
+pub and-bits_lt : (a b : ℕ) → a < 2 → b < 2 → a * b < 2
+and-bits_lt zero b h l = omega arith
+and-bits_lt (suc zero) b h l = omega arith
+and-bits_lt (suc (suc a)) b h l = absurd (omega arith)
+
+-- and under a mask as many as there are bits of the mask where the two differ
+pub number-under : (f g k : ℕ → ℕ) (n : ℕ) → Bits f → Bits g → Bits k
+    → ones (bit_and (bit_xor (number f n) (number g n)) (number k n)) ≡ sum (λ i. differ (f i) (g i) * k i) n
+number-under f g k n hf hg hk =
+    let d : ℕ → ℕ = λ i. differ (f i) (g i) in
+    let hd : Bits d = λ i. differ_lt (f i) (g i) (hf i) (hg i) in
+    ap (λ (x : ℕ). ones (bit_and x (number k n))) (number-differ f g n hf hg)
+    ∙ ap ones
+    (number_op bit_and refl and_block d k n hd hk ∙ number_cong (λ i. bit_and (d i) (k i)) (λ i. d i * k i) n (λ i l. and-bits (d i) (k i) (hd i) (hk i)))
+    ∙ number-ones (λ i. d i * k i) n (λ i. and-bits_lt (d i) (k i) (hd i) (hk i))

@@ -8,7 +8,7 @@ use native.Mathlib.Nat.{mod-lt, div-add-mod', suc-mul, add-suc, zero-mul, le_ref
 use native.Mathlib.Numerals.{add-one}
 use native.Mathlib.Omega.{arith}
 use lib.Arith.{digits_div, digits_mod}
-use lib.Bits.{bit_xor, xor_lt}
+use lib.Bits.{bit_and, bit_xor, xor_lt}
 use lib.Count.{ones}
 use lib.Dec.{eqb, ltb, leb}
 use lib.ListN.{length, length-map}
@@ -20,7 +20,7 @@ use Rattle.theory.proofs.Sums.{sum_cong, sum_split, sum-zero, sum_at, sum_plus, 
 use Rattle.theory.proofs.Lists.{length-cat}
 use Rattle.theory.proofs.Times.{times, times-cat, times-map, times_cong, times_never, once}
 use Rattle.theory.proofs.Xor.{xor_undo, eqb-xor}
-use Rattle.theory.proofs.Masks.{count_masks}
+use Rattle.theory.proofs.Masks.{masks_below}
 use Rattle.theory.proofs.Pigeon.{pigeon_step}
 
 -- Step R opens of table a = R % m each bucket whose exclusive-or with the query's substring has weight R / m, ascending by the exclusive-or.
@@ -85,13 +85,15 @@ length-opened m len wt q r a h =
     ∙ sum_cong _ _ (suc (r * m + a)) (λ R _. length-map (upto (λ e. eqb (wt (R % m) e) (R / m)) (2 ^ len (R % m))) _)
     ∙ sum-places (λ z d. count (λ e. eqb (wt z e) d) (2 ^ len z)) m r a h
 
--- where every bit counts; by the step's number
-pub opened_lengths : (m : ℕ) (len q : ℕ → ℕ) (R : ℕ) → 0 < m
-    → length (opened_by m len (λ _. ones) q (suc R)) ≡ sum (λ z. L (len z) (cond (leb z (R % m)) (R / m + 1) (R / m))) m
-opened_lengths m len q R h =
-    ap (λ (n : ℕ). length (opened_by m len (λ _. ones) q (suc n))) (sym (div-add-mod' R m))
-    ∙ length-opened m len (λ _. ones) q (R / m) (R % m) (mod-lt R h)
-    ∙ sum_cong _ _ m (λ z _. rw add-one (sum_cong _ _ (cond (leb z (R % m)) (suc (R / m)) (R / m)) (λ d _. count_masks (len z) d)))
+-- under a mask, of which c ones are in table z's substring, radius ρ costs 2 ^ (len z - c) * L(c, ρ) buckets; by the step's number
+pub opened_under : (m : ℕ) (len under q : ℕ → ℕ) (R : ℕ) → 0 < m → ((z : ℕ) → under z < 2 ^ len z)
+    → length (opened_by m len (λ z e. ones (bit_and e (under z))) q (suc R))
+    ≡ sum (λ z. 2 ^ (len z - ones (under z)) * L (ones (under z)) (cond (leb z (R % m)) (R / m + 1) (R / m))) m
+opened_under m len under q R h fits =
+    let wt : ℕ → ℕ → ℕ = λ z e. ones (bit_and e (under z)) in
+    ap (λ (n : ℕ). length (opened_by m len wt q (suc n))) (sym (div-add-mod' R m))
+    ∙ length-opened m len wt q (R / m) (R % m) (mod-lt R h)
+    ∙ sum_cong _ _ m (λ z _. rw add-one (masks_below (len z) (under z) (fits z) (cond (leb z (R % m)) (suc (R / m)) (R / m))))
 
 -- and where each substring has s bits
 pub equal_lengths : (m s r a : ℕ) → a < m → sum (λ z. L s (cond (leb z a) (r + 1) r)) m ≡ (a + 1) * L s (r + 1) + (m - a - 1) * L s r

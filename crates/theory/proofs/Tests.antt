@@ -31,6 +31,11 @@ pub chosen : {A : Type 0} (P : A → Type 0) (t : Bool) (x y : A) → (t ≡ tru
 chosen P true x y f g = f refl
 chosen P false x y f g = g refl
 
+-- a choice between the same
+pub same_arms : {A : Type 0} (t : Bool) (x : A) → cond t x x ≡ x
+same_arms true x = refl
+same_arms false x = refl
+
 -- a function of a choice
 pub cond_of : {A B : Type 0} (f : A → B) (t : Bool) (x y : A) → f (cond t x y) ≡ cond t (f x) (f y)
 cond_of f true x y = refl

@@ -24,6 +24,14 @@ use Rattle.tirnavoy.specs.contracts.tirnavoy_sky_degrees as tirnavoy_sky_degrees
 use Rattle.tirnavoy.proofs.tirnavoy_sky_degrees.Reads as tirnavoy_sky_degrees_reads
 use Rattle.tirnavoy.specs.contracts.tirnavoy_sky_radians as tirnavoy_sky_radians
 use Rattle.tirnavoy.proofs.tirnavoy_sky_radians.Reads as tirnavoy_sky_radians_reads
+use Rattle.tirnavoy.specs.contracts.tirnavoy_nearest_masked as tirnavoy_nearest_masked
+use Rattle.tirnavoy.proofs.tirnavoy_nearest_masked.Reads as tirnavoy_nearest_masked_reads
+use Rattle.tirnavoy.specs.contracts.tirnavoy_within_masked as tirnavoy_within_masked
+use Rattle.tirnavoy.proofs.tirnavoy_within_masked.Reads as tirnavoy_within_masked_reads
+use Rattle.tirnavoy.specs.contracts.tirnavoy_verdict_masked as tirnavoy_verdict_masked
+use Rattle.tirnavoy.proofs.tirnavoy_verdict_masked.Reads as tirnavoy_verdict_masked_reads
+use Rattle.tirnavoy.specs.contracts.tirnavoy_blackboard_masked as tirnavoy_blackboard_masked
+use Rattle.tirnavoy.proofs.tirnavoy_blackboard_masked.Reads as tirnavoy_blackboard_masked_reads
 
 -- k numbers of a list: what is returned and the outs
 abbrev Numbers : ℕ → Type 0
@@ -72,3 +80,15 @@ tirnavoy_sky_degrees-Determined κs a x y = whole (λ (l : List ℕ). ((numbers 
 
 pub tirnavoy_sky_radians-Determined : Determined tirnavoy_sky_radians.ended tirnavoy_sky_radians_reads.Post
 tirnavoy_sky_radians-Determined κs a x y = whole (λ (l : List ℕ). ((numbers 3 l).0, kept 2 (numbers 3 l).1))
+
+pub tirnavoy_nearest_masked-Determined : Determined tirnavoy_nearest_masked.ended tirnavoy_nearest_masked_reads.Post
+tirnavoy_nearest_masked-Determined κs a x y = whole (λ (e : Lists). ((numbers 6 e.0).0, kept 9 (e.1, (e.2, (e.3, (numbers 6 e.0).1)))))
+
+pub tirnavoy_within_masked-Determined : Determined tirnavoy_within_masked.ended tirnavoy_within_masked_reads.Post
+tirnavoy_within_masked-Determined κs a x y = whole (λ (e : Lists). ((numbers 6 e.0).0, kept 9 (e.1, (e.2, (e.3, (numbers 6 e.0).1)))))
+
+pub tirnavoy_verdict_masked-Determined : Determined tirnavoy_verdict_masked.ended tirnavoy_verdict_masked_reads.Post
+tirnavoy_verdict_masked-Determined κs a x y = whole (λ (e : List ℕ × List ℕ). ((numbers 10 e.0).0, kept 10 (e.1, (numbers 10 e.0).1)))
+
+pub tirnavoy_blackboard_masked-Determined : Determined tirnavoy_blackboard_masked.ended tirnavoy_blackboard_masked_reads.Post
+tirnavoy_blackboard_masked-Determined κs a x y = whole (λ (l : List ℕ). ((numbers 2 l).0, kept 4 (numbers 2 l).1))

@@ -3,14 +3,14 @@
 
 ghost use Rattle.std.specs.Prelude.{◌≡◌, ◌≤◌, [], ◌∷◌, length, min};
 ghost use Rattle.scope.specs.Batch.{batch, fills, batch_end};
-ghost use Rattle.scope.specs.Calls.{asked, build_end, check_answer, nearest_end, within_end, verdict_end, blackboard_answer, sky_answer};
-ghost use Rattle.scope.specs.Walk.{question};
+ghost use Rattle.scope.specs.Calls.{asked, build_end, check_answer, nearest_end, within_end, verdict_end, blackboard_answer, masked_blackboard_answer, sky_answer};
+ghost use Rattle.scope.specs.Walk.{question, masked};
 ghost use Rattle.scope.specs.Shape.{shape};
 ghost use Rattle.scope.specs.Tables.{index};
 ghost use Rattle.scope.specs.Refusals.{refusal, of_built, of_checked, of_found, of_verdict, of_judged, of_sky, of_blackboard};
 ghost use Rattle.tirnavoy.specs.Outs.{one_out, sky_outs, search_outs, spoken, verdict_outs, built, searched, told};
 
-use scope::{Answer, Index, Refusal, Report, Shape, Unit, Verdict, VerdictReport};
+use scope::{Answer, Index, Opened, Refusal, Report, Shape, Unit, Verdict, VerdictReport};
 
 // 0, or the refusal's number.
 fn number(said: Result<(), Refusal>) -> u32
@@ -96,6 +96,26 @@ fn search_outs(found: Result<Report, Refusal>) -> [u32; 6]
     }
 }
 
+// The same, stored.
+fn tell_found(
+    found: Result<Report, Refusal>,
+    answers: &mut u32,
+    opened: &mut u32,
+    tested: &mut u32,
+    table: &mut u32,
+    bucket: &mut u32,
+) -> u32
+    ensures { result ∷ answers.new ∷ opened.new ∷ tested.new ∷ table.new ∷ bucket.new ∷ [] ≡ search_outs (of_found found) }
+{
+    let [refusal, a, o, t, z, v] = search_outs(found);
+    *answers = a;
+    *opened = o;
+    *tested = t;
+    *table = z;
+    *bucket = v;
+    refusal
+}
+
 // The k nearest entries. C calls no generic function, so that each search has its own.
 #[unsafe(no_mangle)]
 pub extern "C" fn tirnavoy_nearest(
@@ -120,13 +140,7 @@ pub extern "C" fn tirnavoy_nearest(
 {
     let index = index(w, m, stars, codes, starts, ids);
     let found = search::nearest(&index, query, k, marks, entries, distances);
-    let [refusal, a, o, t, z, v] = search_outs(found);
-    *answers = a;
-    *opened = o;
-    *tested = t;
-    *table = z;
-    *bucket = v;
-    refusal
+    tell_found(found, answers, opened, tested, table, bucket)
 }
 
 // All entries within r.
@@ -153,13 +167,63 @@ pub extern "C" fn tirnavoy_within(
 {
     let index = index(w, m, stars, codes, starts, ids);
     let found = search::within(&index, query, r, marks, entries, distances);
-    let [refusal, a, o, t, z, v] = search_outs(found);
-    *answers = a;
-    *opened = o;
-    *tested = t;
-    *table = z;
-    *bucket = v;
-    refusal
+    tell_found(found, answers, opened, tested, table, bucket)
+}
+
+// The k nearest under a mask of the bits that count.
+#[unsafe(no_mangle)]
+pub extern "C" fn tirnavoy_nearest_masked(
+    w: u32,
+    m: u32,
+    stars: &[u32],
+    codes: &[u64],
+    starts: &[u32],
+    ids: &[u32],
+    query: &[u64],
+    mask: &[u64],
+    k: u32,
+    marks: &mut [u64],
+    entries: &mut [u32],
+    distances: &mut [u32],
+    answers: &mut u32,
+    opened: &mut u32,
+    tested: &mut u32,
+    table: &mut u32,
+    bucket: &mut u32,
+) -> u32
+    ensures { (result ∷ answers.new ∷ opened.new ∷ tested.new ∷ table.new ∷ bucket.new ∷ [], marks.new, entries.new, distances.new) ≡ searched (nearest_end (asked (masked (index (shape w m) stars.now codes.now starts.now ids.now) query.now mask.now) marks.old entries.old distances.old) k) }
+{
+    let index = index(w, m, stars, codes, starts, ids);
+    let found = search::nearest_masked(&index, query, mask, k, marks, entries, distances);
+    tell_found(found, answers, opened, tested, table, bucket)
+}
+
+// All entries within r under a mask.
+#[unsafe(no_mangle)]
+pub extern "C" fn tirnavoy_within_masked(
+    w: u32,
+    m: u32,
+    stars: &[u32],
+    codes: &[u64],
+    starts: &[u32],
+    ids: &[u32],
+    query: &[u64],
+    mask: &[u64],
+    r: u32,
+    marks: &mut [u64],
+    entries: &mut [u32],
+    distances: &mut [u32],
+    answers: &mut u32,
+    opened: &mut u32,
+    tested: &mut u32,
+    table: &mut u32,
+    bucket: &mut u32,
+) -> u32
+    ensures { (result ∷ answers.new ∷ opened.new ∷ tested.new ∷ table.new ∷ bucket.new ∷ [], marks.new, entries.new, distances.new) ≡ searched (within_end (asked (masked (index (shape w m) stars.now codes.now starts.now ids.now) query.now mask.now) marks.old entries.old distances.old) r) }
+{
+    let index = index(w, m, stars, codes, starts, ids);
+    let found = search::within_masked(&index, query, mask, r, marks, entries, distances);
+    tell_found(found, answers, opened, tested, table, bucket)
 }
 
 // The k nearest entries to each of up to 256 queries: four numbers and k records for each. A small k needs little scratch, and less is cleared.
@@ -258,6 +322,34 @@ fn verdict_outs(given: Result<VerdictReport, Refusal>) -> [u32; 10]
     }
 }
 
+// The same, stored.
+fn tell_judged(
+    given: Result<VerdictReport, Refusal>,
+    verdict: &mut u32,
+    star: &mut u32,
+    other: &mut u32,
+    distance: &mut u32,
+    farther: &mut u32,
+    opened: &mut u32,
+    tested: &mut u32,
+    table: &mut u32,
+    bucket: &mut u32,
+) -> u32
+    ensures { result ∷ verdict.new ∷ star.new ∷ other.new ∷ distance.new ∷ farther.new ∷ opened.new ∷ tested.new ∷ table.new ∷ bucket.new ∷ [] ≡ verdict_outs (of_judged given) }
+{
+    let [refusal, kind, s, o, d, f, b, e, z, v] = verdict_outs(given);
+    *verdict = kind;
+    *star = s;
+    *other = o;
+    *distance = d;
+    *farther = f;
+    *opened = b;
+    *tested = e;
+    *table = z;
+    *bucket = v;
+    refusal
+}
+
 // Which field is it? The verdict on the nearest entry and its runner-up, with reach t and gap g.
 #[unsafe(no_mangle)]
 pub extern "C" fn tirnavoy_verdict(
@@ -285,26 +377,49 @@ pub extern "C" fn tirnavoy_verdict(
 {
     let index = index(w, m, stars, codes, starts, ids);
     let given = search::verdict(&index, query, t, g, marks);
-    let [refusal, kind, s, o, d, f, b, e, z, v] = verdict_outs(given);
-    *verdict = kind;
-    *star = s;
-    *other = o;
-    *distance = d;
-    *farther = f;
-    *opened = b;
-    *tested = e;
-    *table = z;
-    *bucket = v;
-    refusal
+    tell_judged(
+        given, verdict, star, other, distance, farther, opened, tested, table, bucket,
+    )
 }
 
-// How many buckets are open after the step.
+// The verdict under a mask.
 #[unsafe(no_mangle)]
-pub extern "C" fn tirnavoy_blackboard(w: u32, m: u32, step: u32, buckets: &mut u32) -> u32
-    ensures { result ∷ buckets.new ∷ [] ≡ one_out (of_blackboard (blackboard_answer (shape w m) step)) }
+pub extern "C" fn tirnavoy_verdict_masked(
+    w: u32,
+    m: u32,
+    stars: &[u32],
+    codes: &[u64],
+    starts: &[u32],
+    ids: &[u32],
+    query: &[u64],
+    mask: &[u64],
+    t: u32,
+    g: u32,
+    marks: &mut [u64],
+    verdict: &mut u32,
+    star: &mut u32,
+    other: &mut u32,
+    distance: &mut u32,
+    farther: &mut u32,
+    opened: &mut u32,
+    tested: &mut u32,
+    table: &mut u32,
+    bucket: &mut u32,
+) -> u32
+    ensures { (result ∷ verdict.new ∷ star.new ∷ other.new ∷ distance.new ∷ farther.new ∷ opened.new ∷ tested.new ∷ table.new ∷ bucket.new ∷ [], marks.new) ≡ told (verdict_end (masked (index (shape w m) stars.now codes.now starts.now ids.now) query.now mask.now) marks.old t g) }
 {
-    let shape = Shape { w, m };
-    match blackboard::count(shape, step) {
+    let index = index(w, m, stars, codes, starts, ids);
+    let given = search::verdict_masked(&index, query, mask, t, g, marks);
+    tell_judged(
+        given, verdict, star, other, distance, farther, opened, tested, table, bucket,
+    )
+}
+
+// What the blackboard returns, and its out.
+fn tell_count(count: Result<Opened, Refusal>, buckets: &mut u32) -> u32
+    ensures { result ∷ buckets.new ∷ [] ≡ one_out (of_blackboard count) }
+{
+    match count {
         Ok(opened) => {
             *buckets = opened.0;
             0
@@ -314,6 +429,30 @@ pub extern "C" fn tirnavoy_blackboard(w: u32, m: u32, step: u32, buckets: &mut u
             refusal.number()
         }
     }
+}
+
+// How many buckets are open after the step.
+#[unsafe(no_mangle)]
+pub extern "C" fn tirnavoy_blackboard(w: u32, m: u32, step: u32, buckets: &mut u32) -> u32
+    ensures { result ∷ buckets.new ∷ [] ≡ one_out (of_blackboard (blackboard_answer (shape w m) step)) }
+{
+    let shape = Shape { w, m };
+    tell_count(blackboard::count(shape, step), buckets)
+}
+
+// The same under a mask.
+#[unsafe(no_mangle)]
+pub extern "C" fn tirnavoy_blackboard_masked(
+    w: u32,
+    m: u32,
+    mask: &[u64],
+    step: u32,
+    buckets: &mut u32,
+) -> u32
+    ensures { result ∷ buckets.new ∷ [] ≡ one_out (of_blackboard (masked_blackboard_answer (shape w m) mask.now step)) }
+{
+    let shape = Shape { w, m };
+    tell_count(blackboard::count_masked(shape, mask, step), buckets)
 }
 
 fn sky_code(unit: Unit, across: &[f64], up: &[f64], code: &mut u64, place: &mut u32) -> u32

@@ -4,7 +4,7 @@ use mathlib.Core.List.{List, [], ◌∷◌, ◌++◌}
 use Prim.Native.Nat.{ℕ}
 use lib.Count.{ones}
 use Rattle.theory.specs.Lists.{sum, cat, any, first_from, ranked}
-use Rattle.scope.specs.Codes.{bit, distance, substring, code_of}
+use Rattle.scope.specs.Codes.{bit, distance_under, substring, code_of}
 use Rattle.scope.specs.Shape.{listed, first_bit, len, starts_before}
 use Rattle.scope.specs.Tables.{substring_of, built_starts, built_ids, start, id_at, bad_id, bad}
 use Rattle.scope.specs.Walk.{opens, opened, tested, near}
@@ -88,7 +88,7 @@ abbrev nine : List ℕ
 nine = 57 ∷ 32 ∷ 119 ∷ 105 ∷ 116 ∷ 104 ∷ 105 ∷ 110 ∷ 32 ∷ 49 ∷ 32 ∷ 50 ∷ 32 ∷ 51 ∷ 10 ∷ []
 
 whole : transcript input ≡ stars5 ++ seven ++ first ++ second ++ eight ++ nine ++ first
-unfolding transcript printed built reply record_of meaning_of rest_of wanted number_at digits hex answer_lines build_end build_answer built_starts built_ids nearest_end within_end search_end verdict_end lent nearest_answer within_answer verdict_answer verdict_report report unless nearest_steps nearest within_steps within ranked two_stars first_other rivals verdict_steps nearest_rivals verdict_of first_from near tested opened opens bad bad_id start id_at substring_of listed starts_before first_bit len substring distance code_of bit sum cat any ones
+unfolding transcript printed built reply record_of meaning_of rest_of wanted number_at digits hex answer_lines build_end build_answer built_starts built_ids nearest_end within_end search_end verdict_end lent nearest_answer within_answer verdict_answer verdict_report report unless nearest_steps nearest within_steps within ranked two_stars first_other rivals verdict_steps nearest_rivals verdict_of first_from near tested opened opens bad bad_id start id_at substring_of listed starts_before first_bit len substring distance_under code_of bit sum cat any ones
 whole = refl
 
 -- ---- the end of the input

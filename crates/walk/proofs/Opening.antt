@@ -6,14 +6,12 @@ use Prim.Native.Nat.{ℕ, suc, ◌+◌, ◌≤◌, ◌<◌}
 use native.Mathlib.Nat.{add-zero}
 use native.Mathlib.Decide.{le_ind}
 use native.Mathlib.Omega.{arith}
-use lib.Bits.{bit_and, bit_xor}
-use lib.Count.{ones}
-use lib.Dec.{eqb}
+use lib.Bits.{bit_xor}
 use lib.ListN.{length, length-append, length-map}
 use Rattle.std.proofs.Common.{Ok, Err}
 use Rattle.theory.specs.Lists.{first_from, any, has, upto}
 use Rattle.theory.proofs.Lists.{any_append, any_one, any_none}
-use Rattle.theory.proofs.Counting.{only, upto-suc, upto_cong, upto-first, upto_next, count-le}
+use Rattle.theory.proofs.Counting.{only, upto-suc, upto-first, upto_next, count-le}
 use Rattle.masks.specs.Masks.{has_ones}
 use Rattle.scope.specs.declared.Refusal.{Refusal}
 use Rattle.scope.specs.declared.Refusal.TheVariants.{BadBucket}
@@ -121,29 +119,24 @@ module _ (ask : Question) (goal : Aim) (w : Walk) (marks : List ℕ) where
 
 -- ---- the buckets of one step, by their exclusive-or
 
-module _ (z r sub : ℕ) where
-  pub around_few : (k : ℕ) → length (around z r sub k) ≤ k
-  around_few k = rw length-map (count-le (λ e. eqb (ones e) r) k)
+module _ (z under r sub : ℕ) where
+  pub around_few : (k : ℕ) → length (around z under r sub k) ≤ k
+  around_few k = rw length-map (count-le (has_ones under r) k)
 
-  around-suc : (k : ℕ) → around z r sub (suc k) ≡ around z r sub k ++ map (λ e. (z, bit_xor sub e)) (only (eqb (ones k) r) k)
-  around-suc k = ap (map (λ e. (z, bit_xor sub e))) (upto-suc (λ e. eqb (ones e) r) k) ∙ map-append _ (upto (λ e. eqb (ones e) r) k) _
+  around-suc : (k : ℕ) → around z under r sub (suc k) ≡ around z under r sub k ++ map (λ e. (z, bit_xor sub e)) (only (has_ones under r k) k)
+  around-suc k = ap (map (λ e. (z, bit_xor sub e))) (upto-suc (has_ones under r) k) ∙ map-append _ (upto (has_ones under r) k) _
 
   -- a bad bucket among those below k is the first bad of them all
   pub around-bad : (ask : Question) (goal : Aim) (w o : Walk) (marks marks' tally' : List ℕ) (f : Refusal) (k m : ℕ) → k ≤ m
-      → Opening ask goal (around z r sub k) w o (Refused f) marks marks' tally' → Opening ask goal (around z r sub m) w o (Refused f) marks marks' tally'
+      → Opening ask goal (around z under r sub k) w o (Refused f) marks marks' tally' → Opening ask goal (around z under r sub m) w o (Refused f) marks marks' tally'
   around-bad ask goal w o marks marks' tally' f k m l h =
-      le_ind (λ (j : ℕ). Opening ask goal (around z r sub j) w o (Refused f) marks marks' tally') h (λ j _ g. rw around-suc (opening-bad ask goal w marks _ _ o marks' tally' f g)) m l
+      le_ind (λ (j : ℕ). Opening ask goal (around z under r sub j) w o (Refused f) marks marks' tally') h
+      (λ j _ g. rw around-suc (opening-bad ask goal w marks _ _ o marks' tally' f g)) m l
 
--- with every bit of a bucket's number under the mask: none up to the first number with r ones there, and one more up to each next one
-module _ (z under r sub buckets : ℕ) (all : (e : ℕ) → e < buckets → bit_and e under ≡ e) where
-  around_is : (k : ℕ) → k ≤ buckets → around z r sub k ≡ map (λ e. (z, bit_xor sub e)) (upto (has_ones under r) k)
-  around_is k l = ap (map (λ e. (z, bit_xor sub e))) (upto_cong (λ e. eqb (ones e) r) (has_ones under r) k (λ e h. ap (λ (n : ℕ). eqb (ones n) r) (sym (all e (omega arith)))))
+  -- none up to the first number with r ones under the mask, and one more up to each next one
+  pub around-first : (n k : ℕ) → k ≤ first_from (has_ones under r) 0 n → around z under r sub k ≡ []
+  around-first n k h = ap (map (λ e. (z, bit_xor sub e))) (upto-first (has_ones under r) n k h)
 
-  pub around-first : (n k : ℕ) → k ≤ buckets → k ≤ first_from (has_ones under r) 0 n → around z r sub k ≡ []
-  around-first n k l h = around_is k l ∙ ap (map (λ e. (z, bit_xor sub e))) (upto-first (has_ones under r) n k h)
-
-  pub around-next : (n e k : ℕ) → has_ones under r e ≡ true → e < k → k ≤ buckets → k ≤ first_from (has_ones under r) (e + 1) n
-      → around z r sub k ≡ around z r sub e ++ (z, bit_xor sub e) ∷ []
-  around-next n e k t a l h =
-      around_is k l ∙ ap (map (λ e. (z, bit_xor sub e))) (upto_next (has_ones under r) n e k t a h) ∙ map-append _ (upto (has_ones under r) e) _
-      ∙ ap (λ (b : List (ℕ × ℕ)). b ++ (z, bit_xor sub e) ∷ []) (sym (around_is e (omega arith)))
+  pub around-next : (n e k : ℕ) → has_ones under r e ≡ true → e < k → k ≤ first_from (has_ones under r) (e + 1) n
+      → around z under r sub k ≡ around z under r sub e ++ (z, bit_xor sub e) ∷ []
+  around-next n e k t a h = ap (map (λ e. (z, bit_xor sub e))) (upto_next (has_ones under r) n e k t a h) ∙ map-append _ (upto (has_ones under r) e) _

@@ -1,13 +1,13 @@
 -- The state of the walk, in the lists that it is lent: what each of its functions asks, and what it leaves. Assumes nothing.
-use Rattle.std.specs.Prelude.{◌≡◌, ⊤, Result, Ok, Err, Bool, true, false, ◌&&◌, ◌||◌, List, map, ℕ, ◌+◌, ◌*◌, ◌≤◌, ◌<◌, eqb, ltb, leb, length}
+use Rattle.std.specs.Prelude.{◌≡◌, ⊤, Result, Ok, Err, Bool, true, false, ◌&&◌, ◌||◌, List, map, ℕ, ◌+◌, ◌*◌, ◌≤◌, ◌<◌, ltb, leb, length}
 use Rattle.std.specs.Int.Bits.{bit_xor}
-use Rattle.std.specs.Int.Count.{ones}
 use Rattle.theory.specs.Lists.{first, tab, upto, count, any, has}
 use Rattle.scope.specs.declared.Refusal.{Refusal}
 use Rattle.scope.specs.Tables.{Index, n, bucket}
 use Rattle.scope.specs.Walk.{Question, distance_of, star_of, opened, tested, opened_count, tested_count}
 use Rattle.scope.specs.Verdict.{two_stars}
 use Rattle.scope.specs.Refusals.{met, allowed, mark_words}
+use Rattle.masks.specs.Masks.{has_ones}
 use Rattle.codes.specs.Marks.{is_marked}
 use Rattle.walk.specs.declared.Aim.{Aim}
 use Rattle.walk.specs.declared.Aim.TheVariants as aim
@@ -47,9 +47,9 @@ Met = Result ⊤ Refusal
 abbrev pub lists : Index → List (ℕ × ℕ) → ℕ → Bool
 lists x l i = any (λ b. has i (bucket x b.0 b.1)) l
 
--- of table z the buckets whose exclusive-or with `sub` is below k and has r ones, ascending by it
-abbrev pub around : ℕ → ℕ → ℕ → ℕ → List (ℕ × ℕ)
-around z r sub k = map (λ e. (z, bit_xor sub e)) (upto (λ e. eqb (ones e) r) k)
+-- of table z the buckets whose exclusive-or with `sub` is below k and has r ones under the mask, ascending by it
+abbrev pub around : (z under r sub k : ℕ) → List (ℕ × ℕ)
+around z under r sub k = map (λ e. (z, bit_xor sub e)) (upto (has_ones under r) k)
 
 -- the first bad bucket of l, if one is
 unfoldable pub met_in : Index → List (ℕ × ℕ) → Met

@@ -230,7 +230,7 @@ impl Walk {
         Ok(())
     }
 
-    // Opens the buckets of a table that differ from the query's substring in r bits, ascending by the exclusive-or, up to the first bad one.
+    // Opens the buckets of a table that differ from the query's substring in r bits under the mask, ascending by the exclusive-or, up to the first bad one.
     fn open_all(
         &mut self,
         table: &Table<'_>,
@@ -242,12 +242,11 @@ impl Walk {
         requires room { self.old.opened.0 ≤ 16777216 }
         requires counted { Seeing (asked table.now) aim self.old.seen marks.old tally.old }
         ensures { let ask = asked table.now in let z = table.now.z in let sh = ask.index.shape in
-            Opening ask aim (around z r (substring (first_bit sh z) (len sh z) ask.query) (size sh z)) self.old self.new result marks.old marks.new tally.new }
+            Opening ask aim (around z (substring (first_bit sh z) (len sh z) ask.mask) r (substring (first_bit sh z) (len sh z) ask.query) (size sh z)) self.old self.new result marks.old marks.new tally.new }
     {
         let sub = table.substring();
         let buckets = table.buckets();
-        // every bit counts
-        let under = (buckets - 1) as u16;
+        let under = table.under();
         // by hand: `successors` would work out the number after the last one too, and `next` is asked below 65536 only
         let mut e = masks::first(under, r);
         while e < buckets {
@@ -303,7 +302,7 @@ fn take_steps(
         if w.seen.limit < at {
             return Ok(w);
         }
-        // step m * r + a opens in table a the buckets that differ from the query's substring in r bits
+        // step m * r + a opens in table a the buckets that differ from the query's substring in r bits under the mask
         let step = at as usize;
         let table = Table::of(&own, step % m);
         let r = (step / m) as u32;

@@ -1,5 +1,5 @@
 // A table of what is asked, and a bucket of it.
-ghost use Rattle.std.specs.Prelude.{◌≡◌, false, not, ◌||◌, ◌+◌, ◌≤◌, ◌<◌, eqb, ltb, leb, map, All};
+ghost use Rattle.std.specs.Prelude.{◌≡◌, false, not, ◌||◌, ◌+◌, ◌≤◌, ◌<◌, eqb, ltb, leb, length, map, All};
 ghost use Rattle.theory.specs.Lists.{between};
 ghost use Rattle.scope.specs.declared.Refusal.TheVariants.{BadBucket};
 ghost use Rattle.scope.specs.Codes as spec;
@@ -67,12 +67,20 @@ impl<'a> Table<'a> {
         }
     }
 
-    // How many buckets it has.
+    // How many buckets it has: one fewer than its starts. By their number, since the compiler makes a shift of each comparison with a power of two.
     pub(crate) fn buckets(&self) -> usize
         ensures value { result ≡ size (asked self.now).index.shape self.now.z }
         ensures few { result ≤ 65536 }
     {
-        1 << self.bits
+        self.starts.len() - 1
+    }
+
+    // Its substring of a code.
+    fn substring_of(&self, code: &[u64]) -> usize
+        requires { length code.now ≡ (asked self.now).index.shape.w }
+        ensures { let sh = (asked self.now).index.shape in result ≡ spec.substring (shape.first_bit sh self.now.z) (len sh self.now.z) code.now }
+    {
+        codes::substring(code, self.first_bit, self.bits)
     }
 
     // The query's substring: the bucket that the table's first step opens.
@@ -80,7 +88,15 @@ impl<'a> Table<'a> {
         ensures { let ask = asked self.now in result ≡ spec.substring (shape.first_bit ask.index.shape self.now.z) (len ask.index.shape self.now.z) ask.query }
     {
         let ask = self.ask;
-        codes::substring(ask.query, self.first_bit, self.bits)
+        self.substring_of(ask.query)
+    }
+
+    // The mask's substring: the bits of a bucket's number that count.
+    pub(crate) fn under(&self) -> u16
+        ensures { let ask = asked self.now in result ≡ spec.substring (shape.first_bit ask.index.shape self.now.z) (len ask.index.shape self.now.z) ask.mask }
+    {
+        let ask = self.ask;
+        self.substring_of(ask.mask) as u16
     }
 
     // The bucket that entry i belongs to.

@@ -1,42 +1,39 @@
-use mathlib.Core.Path.{◌≡◌, sym, ◌∙◌}
+use mathlib.Core.Path.{◌≡◌, sym, ap, ◌∙◌}
 use mathlib.Core.List.{List}
 use Prim.Native.Nat.{ℕ, ◌+◌, ◌*◌, ◌^◌, ◌<◌}
 use native.Mathlib.Omega.{arith}
-use lib.ListN.{length, get_or, take, length-append}
-use lib.Bits.{bit_xor}
-use lib.Seq.{get_or-take}
-use lib.Count.{ones}
-use Rattle.std.proofs.lemmas.List.{length-take}
-use Rattle.std.proofs.lemmas.Slice.Zip.{zip_turn}
-use Rattle.scope.specs.Codes.{distance}
-use Rattle.scope.proofs.Codes.{distance_none, distance_word, distance-le}
+use lib.Bits.{bit_and, bit_xor, and_le_l, and_le_r, xor_lt}
+use lib.Count.{ones, ones-le}
+use lib.ListN.{length, get_or}
+use Rattle.scope.specs.Codes.{distance_under}
+use Rattle.scope.proofs.Codes.{under_none, under_word, under-le}
 use Rattle.codes.proofs.differing.Goals as goal
 
--- one pair of words more, the one after k
-step : (code query : List ℕ) (few k r x y : ℕ) → k < length (take few query) → x ≡ get_or code k 0 → y ≡ get_or (take few query) k 0 → x < 2 ^ 64 → y < 2 ^ 64
-    → r ≡ distance (64 * k) code query → r + ones (bit_xor x y) ≡ distance (64 * (k + 1)) code query
-step code query few k r x y h a b hx hy e =
-    let same = b ∙ get_or-take few query k 0 (omega (arith, length-take few query)) in
-    rw (e, a, same) (sym (distance_word k code query (rw (← a) hx) (rw (← same) hy)))
+-- every word is one of 64 bits
+abbrev Words : List ℕ → Type 0
+Words l = (k : ℕ) → get_or l k 0 < 2 ^ 64
 
-pub loop-a-init : goal.loop-a-init
-loop-a-init c = sym (distance_none _ _)
+-- one word more, the one after k
+step : (code query mask : List ℕ) → Words code → Words query → Words mask → (k r : ℕ) → r ≡ distance_under mask (64 * k) code query
+    → r + ones (bit_and (bit_xor (get_or code k 0) (get_or query k 0)) (get_or mask k 0)) ≡ distance_under mask (64 * (k + 1)) code query
+step code query mask hc hq hm k r e = rw e (sym (under_word mask code query k (hc k) (hq k) (hm k)))
+
+pub loop-k-init : goal.loop-k-init
+loop-k-init c = sym (under_none _ _ _)
 
 pub overflow_add-r : goal.overflow_add-r
 overflow_add-r c =
     let s = c.args in
-    let code : c.into_iter-a-iterator.result.a.rest.now ≡ s.code.now = rw (c.into_iter-a-iterator.ensures.into_iter_gives, c.zip-a-items.ensures.first) c.iter.ensures.rest in
-    let query = rw (← c.into_iter-a-iterator.ensures.into_iter_gives) at c.zip-a-items.ensures.second.0 in
-    let t = zip_turn _ _ c.loop-a.yielded c.into_iter-a-iterator.result _ c.next.new.self _ code query c.loop-a.yielded_by _ c.in-Some.is c.next.ensures.steps in
-    let k = length c.loop-a.yielded in
-    let more = step s.code.now s.query.now _ k c.loop-a.r c.in-Some.a.now c.in-Some.b.now t.1 (t.2 0) (t.3 0) (omega arith) (omega arith) c.loop-a.invariant in
-    omega (arith, t.0, more, distance-le (64 * (k + 1)) s.code.now s.query.now)
+    let k = c.loop-k.k in
+    let few = c.requires.few in
+    omega (arith, c.loop-k.invariant, under-le s.mask.now s.code.now s.query.now (64 * k), ones-le 64, and_le_l, and_le_r, xor_lt 64, c.type_inv.code k, c.type_inv.query k, c.type_inv.mask k)
 
-pub loop-a-preserved : goal.loop-a-preserved
-loop-a-preserved c =
+pub loop-k-preserved : goal.loop-k-preserved
+loop-k-preserved c =
+    step _ _ _ (λ k. omega (arith, c.type_inv.code k)) (λ k. omega (arith, c.type_inv.query k)) (λ k. omega (arith, c.type_inv.mask k)) c.loop-k.k _ c.loop-k.invariant
+
+pub returns : goal.returns
+returns c =
     let s = c.args in
-    let code : c.into_iter-a-iterator.result.a.rest.now ≡ s.code.now = rw (c.into_iter-a-iterator.ensures.into_iter_gives, c.zip-a-items.ensures.first) c.iter.ensures.rest in
-    let query = rw (← c.into_iter-a-iterator.ensures.into_iter_gives) at c.zip-a-items.ensures.second.0 in
-    let t = zip_turn _ _ c.loop-a.yielded c.into_iter-a-iterator.result _ c.next.new.self _ code query c.loop-a.yielded_by _ c.in-Some.is c.next.ensures.steps in
-    let k = length c.loop-a.yielded in
-    rw length-append (step s.code.now s.query.now _ k c.loop-a.r c.in-Some.a.now c.in-Some.b.now t.1 (t.2 0) (t.3 0) (omega arith) (omega arith) c.loop-a.invariant)
+    let all : c.loop-k.k ≡ length s.code.now = omega arith in
+    c.loop-k.invariant ∙ ap (λ (k : ℕ). distance_under s.mask.now (64 * k) s.code.now s.query.now) all

@@ -7,21 +7,22 @@ use lib.Bits.{differ}
 use lib.ListN.{length, take}
 use lib.Seq.{get_or-take, length-take-le}
 use Rattle.theory.proofs.Sums.{sum_cong}
-use Rattle.scope.specs.Codes.{bit, distance}
-use Rattle.scope.proofs.Codes.{distance_mono}
+use Rattle.scope.specs.Codes.{bit, distance_under}
+use Rattle.scope.proofs.Codes.{under_mono}
 use Rattle.codes.specs.Distances.{distance_from}
 use Rattle.codes.proofs.Limits.{limited-near, limited_far}
 use Rattle.codes.proofs.Codes.distance.Goals as goal
 use Rattle.codes.proofs.Codes.distance.Goals.{Start}
 
 -- in the first n words only those count
-distance-first : (n : ℕ) (code query : List ℕ) → distance (64 * n) (take n code) query ≡ distance (64 * n) code query
-unfolding distance bit
-distance-first n code query = sum_cong _ _ (64 * n) (λ j l. ap (λ (x : ℕ). differ (x / 2 ^ (j % 64) % 2) (bit query j)) (get_or-take n code (j / 64) 0 (omega arith)))
+distance-first : (n : ℕ) (code query mask : List ℕ) → distance_under mask (64 * n) (take n code) query ≡ distance_under mask (64 * n) code query
+unfolding distance_under bit
+distance-first n code query mask =
+    sum_cong _ _ (64 * n) (λ j l. ap (λ (x : ℕ). differ (x / 2 ^ (j % 64) % 2) (bit query j) * bit mask j) (get_or-take n code (j / 64) 0 (omega arith)))
 
 -- entry i's distance
 abbrev D : Start → ℕ
-D s = distance_from s.args.self.w s.args.self.words.now s.args.query.now s.args.i
+D s = distance_from s.args.self.w s.args.self.words.now s.args.query.now s.args.mask.now s.args.i
 
 -- over the limit in the first words
 pub returns-then-limit-differing : goal.returns-then-limit-differing
@@ -32,8 +33,10 @@ returns-then-limit-differing c =
     let code = c.code-code.result.now in
     let few = s.args.limit / 24 + 1 in
     let long : length (take few code) ≡ few = length-take-le few code (omega arith) in
-    let differ : c.differing.result ≡ distance (64 * few) code s.args.query.now = rw long at c.differing.ensures ∙ distance-first few code s.args.query.now in
-    sym (limited_far s.args.limit (D s) (rw (← value) (omega (arith, c.if-limit-differing.true, differ, distance_mono (64 * few) (64 * s.args.self.w) code s.args.query.now (omega arith)))))
+    let differ : c.differing.result ≡ distance_under s.args.mask.now (64 * few) code s.args.query.now = rw long at c.differing.ensures ∙ distance-first few code s.args.query.now s.args.mask.now in
+    sym
+    (limited_far s.args.limit (D s)
+    (rw (← value) (omega (arith, c.if-limit-differing.true, differ, under_mono s.args.mask.now code s.args.query.now (64 * few) (64 * s.args.self.w) (omega arith)))))
 
 pub returns-then-limit-d : goal.returns-then-limit-d
 returns-then-limit-d c =

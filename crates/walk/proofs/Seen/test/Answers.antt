@@ -2,7 +2,7 @@
 use mathlib.Core.Path.{◌≡◌, sym, ap, ◌∙◌}
 use Prim.Native.Nat.{ℕ, ◌*◌, ◌≤◌, ◌<◌}
 use native.Mathlib.Omega.{arith}
-use Rattle.scope.proofs.Codes.{distance-le}
+use Rattle.scope.proofs.Codes.{under-le}
 use Rattle.scope.proofs.Shapes.{facts}
 use Rattle.scope.specs.Codes.{code_of}
 use Rattle.scope.specs.Refusals.{mark_words}
@@ -28,7 +28,7 @@ module _ (ask : Question) (h : Asked ask) (i : ℕ) (l : i < n ask.index) where
   few = let f = h.lent.few in omega arith
 
   near : distance_of ask i ≤ 256
-  near = let w = (facts _ h.lent.known).few_words in omega (arith, distance-le (64 * ask.index.shape.w) (code_of ask.index.shape.w ask.index.codes i) ask.query)
+  near = let w = (facts _ h.lent.known).few_words in omega (arith, under-le ask.mask (code_of ask.index.shape.w ask.index.codes i) ask.query (64 * ask.index.shape.w))
 
 pub overflow_add-tested : goal.overflow_add-tested
 overflow_add-tested c =

@@ -3,7 +3,6 @@ use mathlib.Core.Path.{◌≡◌}
 use mathlib.Core.Bool.{true}
 use mathlib.Core.List.{List}
 use Prim.Native.Nat.{ℕ, min, ◌-◌, ◌≤◌, ◌<◌}
-use lib.Bits.{bit_and}
 use lib.ListN.{length}
 use Rattle.masks.specs.Masks.{has_ones}
 use Rattle.scope.specs.Walk.{Question}
@@ -13,12 +12,11 @@ use Rattle.walk.specs.Steps.{around, Opening}
 use Rattle.walk.proofs.Opening.{Clear}
 use Rattle.walk.proofs.Walk.open_all.Given as goal
 
--- the buckets of the exclusive-ors below e are open, and e has r ones or is past the last; every bit of a bucket's number is under the mask
+-- the buckets of the exclusive-ors below e are open, and e has r ones under the mask or is past the last
 pub record Through (ask : Question) (goal : Aim) (z r sub buckets under : ℕ) (w o : Walk) (marks marks' tally tally' : List ℕ) (e : ℕ) : Type 0 where
   pub few : buckets ≤ 65536
-  pub all : (v : ℕ) → v < buckets → bit_and v under ≡ v
   pub here : e < buckets → has_ones under r e ≡ true
-  pub opened : Opening ask goal (around z r sub (min e buckets)) w o Clear marks marks' tally'
+  pub opened : Opening ask goal (around z under r sub (min e buckets)) w o Clear marks marks' tally'
   pub same-marks : length marks' ≡ length marks
   pub same-tally : length tally' ≡ length tally
 

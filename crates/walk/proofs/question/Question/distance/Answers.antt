@@ -10,4 +10,5 @@ distance-requires c =
     let (words, w) = c.codes.ensures in
     let codes = c.self.invariant.lent.codes in
     let query = c.self.invariant.query in
-    rw (words, w) (omega (arith, in_parts c.args.i _ x.shape.w r), omega arith)
+    let mask = c.self.invariant.mask in
+    rw (words, w) (record { inside = omega (arith, in_parts c.args.i _ x.shape.w r); long = (omega arith, omega arith) })

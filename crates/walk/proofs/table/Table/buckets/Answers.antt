@@ -1,27 +1,27 @@
 -- `Table::buckets` meets its contract. Assumes nothing.
-use mathlib.Core.Path.{ap, ◌∙◌}
-use Prim.Native.Nat.{ℕ, ◌^◌, ◌<◌}
+use mathlib.Core.Path.{◌≡◌, ap, ◌∙◌}
+use Prim.Native.Nat.{◌+◌}
 use native.Mathlib.Omega.{arith}
-use Rattle.theory.proofs.Numbers.{one_shl}
+use lib.ListN.{length}
+use Rattle.scope.specs.Shape.{size}
 use Rattle.scope.proofs.Shapes.{facts, few_buckets}
+use Rattle.walk.proofs.Parts.{length-own_starts}
 use Rattle.walk.proofs.table.Table.buckets.Goals as goal
 use Rattle.walk.proofs.table.Table.buckets.Goals.{Start}
 
-few : (c : Start) → c.args.self.now.bits < 64
-few c =
+-- its starts are one more than its buckets
+starts : (c : Start) → let t = c.args.self.now in length t.starts.now ≡ size t.ask.now.index.shape t.z + 1
+starts c =
     let t = c.args.self.now in
-    let f = (facts _ t.asked.lent.known).few_bits t.z in
-    omega (arith, t.long)
+    ap length t.own_starts ∙ length-own_starts t.ask.now.index t.asked.lent t.z t.one
 
-pub overflow_shl-result : goal.overflow_shl-result
-overflow_shl-result c = few search
+pub overflow_sub-result : goal.overflow_sub-result
+overflow_sub-result c = omega (arith, starts search)
 
 pub returns-clause-value : goal.returns-clause-value
-returns-clause-value c =
-    let t = c.args.self.now in
-    one_shl t.bits (few search) ∙ ap (λ (n : ℕ). 2 ^ n) t.long
+returns-clause-value c = omega (arith, starts search)
 
 pub returns-clause-few : goal.returns-clause-few
 returns-clause-few c =
     let t = c.args.self.now in
-    omega (arith, returns-clause-value c, few_buckets _ (facts _ t.asked.lent.known) t.z)
+    omega (arith, starts search, few_buckets _ (facts _ t.asked.lent.known) t.z)
